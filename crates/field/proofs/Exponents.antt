@@ -13,7 +13,7 @@ use lib.ListN.{length, getD, set, replicate}
 use Rattle.base.proofs.Test.{both, both-left, both-right, allBelow, below}
 use Rattle.base.proofs.Cases.{eq-or}
 use Rattle.field.specs.Field.{IsByte, add, mul, pow, Inverse, PowerTable, LogTable}
-use Rattle.field.proofs.Product.{mul-comm, mul-assoc, mul-byte, mul-one-left, mul-one-right, mul-zero-left, mul-zero-right}
+use Rattle.field.proofs.Multiplication.{mul-comm, mul-assoc, mul-byte, mul-one-left, mul-one-right, mul-zero-left, mul-zero-right}
 
 -- ---- exponents
 

@@ -11,8 +11,8 @@ use lib.Bits.{bitXor}
 use lib.Pow.{shr-shr}
 use Rattle.base.proofs.Test.{allBelow, below}
 use Rattle.field.specs.Field.{IsByte, add, mul}
-use Rattle.field.proofs.Sum.{agree, top, add-assoc, add-comm, add-zero-left, add-zero-right}
-use Rattle.field.proofs.Product.{shift-add, mul-add-left, mul-add-right, mul-comm, mul-assoc, mul-zero-left, mul-one-left, mul-byte}
+use Rattle.field.proofs.Addition.{agree, top, add-assoc, add-comm, add-zero-left, add-zero-right}
+use Rattle.field.proofs.Multiplication.{shift-add, mul-add-left, mul-add-right, mul-comm, mul-assoc, mul-zero-left, mul-one-left, mul-byte}
 
 double-test : ℕ → Bool
 double-test x = eqb (bitXor (x % 128 * 2) (x / 128 * 29)) (mul 2 x)

@@ -1,4 +1,5 @@
-pub mod Sum
-pub mod Product
+pub mod Addition
+pub mod Multiplication
 pub mod Exponents
+pub mod FiniteSum
 mod Kernel

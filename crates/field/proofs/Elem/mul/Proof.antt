@@ -3,7 +3,7 @@ use mathlib.Core.Path.{ap, sym, _∙_}
 use Prim.Native.Nat.{ℕ, _+_, _%_}
 use borrow.Author.Needs.{needs}
 use Rattle.field.specs.Field.{mul, pow}
-use Rattle.field.proofs.Product.{mul-zero-left, mul-zero-right}
+use Rattle.field.proofs.Multiplication.{mul-zero-left, mul-zero-right}
 use Rattle.field.proofs.Exponents.{mul-by-exponents}
 use Rattle.field.proofs.Elem.mul.Statement.{statement}
 use Rattle.field.proofs.Elem.mul.Tie as tie

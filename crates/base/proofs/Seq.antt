@@ -1,0 +1,46 @@
+-- Laws of lists given by their entries: induction on the count. Assumes nothing.
+use mathlib.Core.Path.{_≡_, refl, sym, ap, ap₂, _∙_}
+use mathlib.Core.List.{List, [], _∷_}
+use Prim.Native.Nat.{ℕ, zero, suc, _≤_, _<_}
+use native.Mathlib.Nat.{not-suc-le-zero, le-of-suc-le-suc, zero-lt-suc}
+use native.Mathlib.Omega.{arith}
+use lib.ListN.{length, getD}
+use lib.Seq.{ext-getD}
+use Rattle.base.specs.Seq.{tabulate}
+
+pub length-tabulate : (n : ℕ) (f : ℕ → ℕ) → length (tabulate n f) ≡ n
+unfolding tabulate
+length-tabulate zero f = refl
+length-tabulate (suc n) f = ap suc (length-tabulate n (λ i. f (suc i)))
+
+pub getD-tabulate : (n : ℕ) (f : ℕ → ℕ) (i : ℕ) → i < n → getD (tabulate n f) i 0 ≡ f i
+unfolding tabulate
+getD-tabulate zero f i h = absurd (not-suc-le-zero h)
+getD-tabulate (suc n) f zero h = refl
+getD-tabulate (suc n) f (suc i) h = getD-tabulate n (λ i. f (suc i)) i (le-of-suc-le-suc h)
+
+-- past the end stands 0
+pub getD-tabulate-past : (n : ℕ) (f : ℕ → ℕ) (i : ℕ) → n ≤ i → getD (tabulate n f) i 0 ≡ 0
+unfolding tabulate
+getD-tabulate-past zero f i h = refl
+getD-tabulate-past (suc n) f zero h = absurd (not-suc-le-zero h)
+getD-tabulate-past (suc n) f (suc i) h = getD-tabulate-past n (λ i. f (suc i)) i (le-of-suc-le-suc h)
+
+pub tabulate-ext : (n : ℕ) (f g : ℕ → ℕ) → ((i : ℕ) → i < n → f i ≡ g i) → tabulate n f ≡ tabulate n g
+unfolding tabulate
+tabulate-ext zero f g h = refl
+tabulate-ext (suc n) f g h =
+    ap₂ _∷_ (h 0 (zero-lt-suc n)) (tabulate-ext n (λ i. f (suc i)) (λ i. g (suc i)) (λ i hi. h (suc i) (omega arith)))
+
+-- a list of n entries is the list of its entries
+pub tabulate-getD : (n : ℕ) (l : List ℕ) → length l ≡ n → tabulate n (λ i. getD l i 0) ≡ l
+tabulate-getD n l e =
+    ext-getD 0 _ _ (length-tabulate n _ ∙ sym e)
+    (λ i hi. getD-tabulate n (λ i. getD l i 0) i (subst-lt i hi))
+  where
+    subst-lt : (i : ℕ) → i < length (tabulate n (λ i. getD l i 0)) → i < n
+    subst-lt i hi = omega (arith, length-tabulate n (λ i. getD l i 0))
+
+-- a list with the given entries is that list
+pub eq-tabulate : (n : ℕ) (f : ℕ → ℕ) (l : List ℕ) → length l ≡ n → ((i : ℕ) → i < n → getD l i 0 ≡ f i) → l ≡ tabulate n f
+eq-tabulate n f l e h = sym (tabulate-getD n l e) ∙ tabulate-ext n (λ i. getD l i 0) f h
