@@ -1,12 +1,13 @@
 -- Laws of lists given by their entries: induction on the count. Assumes nothing.
-use mathlib.Core.Path.{_≡_, refl, sym, ap, ap₂, _∙_}
+use mathlib.Core.Path.{_≡_, refl, sym, ap, ap₂, _∙_, subst}
 use mathlib.Core.List.{List, [], _∷_}
-use Prim.Native.Nat.{ℕ, zero, suc, _≤_, _<_}
-use native.Mathlib.Nat.{not-suc-le-zero, le-of-suc-le-suc, zero-lt-suc}
+use Prim.Native.Nat.{ℕ, zero, suc, _+_, _*_, _/_, _%_, _≤_, _<_}
+use native.Mathlib.Nat.{not-suc-le-zero, le-of-suc-le-suc, zero-lt-suc, div-add-mod', div-lt-iff-lt-mul, mod-lt}
 use native.Mathlib.Omega.{arith}
+use lib.Arith.{digits-lt, digits-div, digits-mod}
 use lib.ListN.{length, getD}
 use lib.Seq.{ext-getD}
-use Rattle.base.specs.Seq.{tabulate}
+use Rattle.base.specs.Seq.{tabulate, cell, blocks}
 
 pub length-tabulate : (n : ℕ) (f : ℕ → ℕ) → length (tabulate n f) ≡ n
 unfolding tabulate
@@ -44,3 +45,30 @@ tabulate-getD n l e =
 -- a list with the given entries is that list
 pub eq-tabulate : (n : ℕ) (f : ℕ → ℕ) (l : List ℕ) → length l ≡ n → ((i : ℕ) → i < n → getD l i 0 ≡ f i) → l ≡ tabulate n f
 eq-tabulate n f l e h = sym (tabulate-getD n l e) ∙ tabulate-ext n (λ i. getD l i 0) f h
+
+-- ---- blocks
+
+-- a place within the blocks
+pub cell-lt : (b n j p : ℕ) → j < n → p < b → j * b + p < n * b
+cell-lt b n j p hj hp = digits-lt hj hp
+
+pub cell-blocks : (b n : ℕ) (f : ℕ → ℕ → ℕ) (j p : ℕ) → j < n → p < b → cell b (blocks b n f) j p ≡ f j p
+unfolding cell blocks
+cell-blocks b n f j p hj hp =
+    getD-tabulate (n * b) _ (j * b + p) (cell-lt b n j p hj hp) ∙ ap₂ f (digits-div j hp) (digits-mod j hp)
+
+pub length-blocks : (b n : ℕ) (f : ℕ → ℕ → ℕ) → length (blocks b n f) ≡ n * b
+unfolding blocks
+length-blocks b n f = length-tabulate (n * b) _
+
+-- lists of n blocks with equal cells are equal
+pub cells-ext : (b n : ℕ) (xs ys : List ℕ) → 0 < b → length xs ≡ n * b → length ys ≡ n * b
+    → ((j p : ℕ) → j < n → p < b → cell b xs j p ≡ cell b ys j p) → xs ≡ ys
+unfolding cell
+cells-ext b n xs ys hb ex ey h =
+    ext-getD 0 xs ys (ex ∙ sym ey)
+    (λ i hi.
+    let whole : i / b * b + i % b ≡ i = div-add-mod' i b in
+    ap (λ (k : ℕ). getD xs k 0) (sym whole)
+    ∙ h (i / b) (i % b) (div-lt-iff-lt-mul hb .1 (subst (λ (k : ℕ). i < k) ex hi)) (mod-lt i hb)
+    ∙ ap (λ (k : ℕ). getD ys k 0) whole)
