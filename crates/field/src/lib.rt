@@ -23,20 +23,20 @@ impl Elem {
         Elem(self.0 ^ other.0)
     }
 
-    // Through the table: the exponents of two nonzero factors add up, modulo 255.
+    // Zero times anything is zero; the exponents of two other factors in the table add up, modulo 255.
     pub fn mul(self, other: Elem) -> Elem
         ensures { λ r. ⌜ r .0 ≡ mul (self .0) (other .0) ⌝ }
     {
         if self.0 == 0 {
-            return Elem::ZERO;
+            return self;
         }
         if other.0 == 0 {
-            return Elem::ZERO;
+            return other;
         }
         Elem(exp((log(self.0) + log(other.0)) % Elem::ORDER))
     }
 
-    // Through the table: the exponent of the inverse is 255 less the element's own. The inverse of zero is zero.
+    // The inverse of zero is zero; of any other element, the exponent in the table is 255 less the element's own.
     pub fn inverse(self) -> Elem
         ensures { λ r. ⌜ Inverse (self .0) (r .0) ⌝ }
     {

@@ -11,12 +11,12 @@ use Rattle.field.proofs.Elem.mul.Tie as tie
 returns : tie.Need-returns
 returns c =
     let a = c .before .before .args in
-    sym (ap (λ (x : ℕ). mul x (a .other .0)) (c .if1 .taken) ∙ mul-zero-left (a .other .0))
+    c .if1 .taken ∙ sym (ap (λ (x : ℕ). mul x (a .other .0)) (c .if1 .taken) ∙ mul-zero-left (a .other .0))
 
 returns-2 : tie.Need-returns-2
 returns-2 c =
     let a = c .before .before .before .before .args in
-    sym (ap (mul (a .self .0)) (c .if2 .taken) ∙ mul-zero-right (a .self .0))
+    c .if2 .taken ∙ sym (ap (mul (a .self .0)) (c .if2 .taken) ∙ mul-zero-right (a .self .0))
 
 log-requires : tie.Need-log-requires
 log-requires c κs = search needs
