@@ -1,3 +1,5 @@
 pub mod Cases
 pub mod Test
 pub mod Seq
+pub mod Filled
+pub mod Parts

@@ -5,7 +5,7 @@ use Prim.Native.Nat.{ℕ, zero, suc, _+_, _*_, _/_, _%_, _≤_, _<_}
 use native.Mathlib.Nat.{not-suc-le-zero, le-of-suc-le-suc, zero-lt-suc, div-add-mod', div-lt-iff-lt-mul, mod-lt}
 use native.Mathlib.Omega.{arith}
 use lib.Arith.{digits-lt, digits-div, digits-mod}
-use lib.ListN.{length, getD}
+use lib.ListN.{length, getD, replicate}
 use lib.Seq.{ext-getD}
 use Rattle.base.specs.Seq.{tabulate, cell, blocks}
 
@@ -72,3 +72,8 @@ cells-ext b n xs ys hb ex ey h =
     ap (λ (k : ℕ). getD xs k 0) (sym whole)
     ∙ h (i / b) (i % b) (div-lt-iff-lt-mul hb .1 (subst (λ (k : ℕ). i < k) ex hi)) (mod-lt i hb)
     ∙ ap (λ (k : ℕ). getD ys k 0) whole)
+
+pub tabulate-zeros : (n : ℕ) → tabulate n (λ i. 0) ≡ replicate n 0
+unfolding tabulate
+tabulate-zeros zero = refl
+tabulate-zeros (suc n) = ap (λ (l : List ℕ). 0 ∷ l) (tabulate-zeros n)

@@ -1,0 +1,190 @@
+-- From the working matrix to the matrix and its inverse: for z = x ++ y the start [m | 1] takes z to zero exactly where m takes x to y, and the end
+-- [1 | n] exactly where n takes y to x. A column without a pivot gives a vector that is taken to zero. Assumes nothing.
+use mathlib.Core.Path.{_≡_, sym, ap, ap₂, _∙_, subst}
+use mathlib.Core.Bool.{Bool}
+use mathlib.Core.List.{List, _++_}
+use mathlib.Core.Logic.{_↔_, ⊎-elim}
+use Prim.Native.Nat.{ℕ, _+_, _*_, _≤_, _<_}
+use native.Mathlib.Nat.{zero-lt-suc}
+use native.Mathlib.Numerals.{add-one}
+use native.Mathlib.Omega.{arith}
+use lib.Dec.{ltb}
+use lib.ListN.{length, getD, replicate, length-replicate, getD-replicate, List·getD-append}
+use lib.Seq.{getD-append-add}
+use borrow.Author.Tests.{lt-ltb, le-ltb}
+use Rattle.base.specs.Gate.{orElse}
+use Rattle.base.specs.Seq.{tabulate}
+use Rattle.base.proofs.Cases.{lt-or}
+use Rattle.base.proofs.Seq.{length-tabulate, getD-tabulate}
+use Rattle.field.specs.Field.{IsByte, Bytes, add, mul}
+use Rattle.field.specs.FiniteSum.{sum}
+use Rattle.field.proofs.Addition.{add-byte, add-self, add-zero-left, add-zero-right, add-zero-eq, add-eq-zero}
+use Rattle.field.proofs.Multiplication.{mul-add-right, mul-zero-right}
+use Rattle.field.proofs.FiniteSum.{sum-ext, sum-add, sum-split}
+use Rattle.matrix.specs.Matrix.{Vector, entry, apply, column, IsInverse, Singular, Dependent}
+use Rattle.matrix.specs.Product.{unit}
+use Rattle.matrix.specs.Working.{grid, Loaded, Kills, Units, Reduced, StuckAt}
+use Rattle.matrix.proofs.Identity.{unit-same, unit-other, unit-byte, unit-sum, sum-unit}
+use Rattle.matrix.proofs.Kernel.{against}
+use Rattle.matrix.proofs.Laws.{vector-tabulate, apply-entry, apply-tabulate, apply-is, apply-at}
+
+loaded-against : (s : ℕ) (m w : List ℕ) → Loaded s m w → (z : ℕ → ℕ) (i : ℕ) → i < s → IsByte (z (s + i))
+    → against s w i z ≡ add (sum s (λ k. mul (entry s m i k) (z k))) (z (s + i))
+loaded-against s m w loaded z i hi byte =
+    sum-split s s (λ k. mul (grid w i k) (z k))
+    ∙ ap₂ add
+    (sum-ext s (λ k. mul (grid w i k) (z k)) (λ k. mul (entry s m i k) (z k)) (λ k hk. ap (λ (x : ℕ). mul x (z k)) (loaded .left i k hi hk)))
+    (sum-ext s (λ k. mul (grid w i (s + k)) (z (s + k))) (λ k. mul (unit i k) (z (s + k)))
+    (λ k hk. ap (λ (x : ℕ). mul x (z (s + k))) (loaded .right i k hi hk))
+    ∙ unit-sum s i (λ k. z (s + k)) hi byte)
+
+units-against : (s : ℕ) (w : List ℕ) → Units s s w → (z : ℕ → ℕ) (i : ℕ) → i < s → IsByte (z i)
+    → against s w i z ≡ add (z i) (sum s (λ k. mul (grid w i (s + k)) (z (s + k))))
+units-against s w units z i hi byte =
+    sum-split s s (λ k. mul (grid w i k) (z k))
+    ∙ ap (λ (x : ℕ). add x (sum s (λ k. mul (grid w i (s + k)) (z (s + k)))))
+    (sum-ext s (λ k. mul (grid w i k) (z k)) (λ k. mul (unit i k) (z k)) (λ k hk. ap (λ (x : ℕ). mul x (z k)) (units i k hi hk))
+    ∙ unit-sum s i z hi byte)
+
+-- ---- the end of a whole elimination
+
+module _ (s : ℕ) (m start end n : List ℕ) (loaded : Loaded s m start) (reduced : Reduced s s start end)
+    (written : (i k : ℕ) → i < s → k < s → entry s n i k ≡ grid end i (s + k)) where
+  module _ (x y : List ℕ) (hx : Vector s x) (hy : Vector s y) where
+    left : (k : ℕ) → k < s → getD (x ++ y) k 0 ≡ getD x k 0
+    left k hk = List·getD-append x y 0 k (omega (arith, hx .count))
+
+    right : (k : ℕ) → getD (x ++ y) (s + k) 0 ≡ getD y k 0
+    right k = ap (λ (n : ℕ). getD (x ++ y) (n + k) 0) (sym (hx .count)) ∙ getD-append-add x y k 0
+
+    at-start : (i : ℕ) → i < s → against s start i (λ k. getD (x ++ y) k 0) ≡ add (sum s (λ k. mul (entry s m i k) (getD x k 0))) (getD y i 0)
+    at-start i hi =
+        loaded-against s m start loaded (λ k. getD (x ++ y) k 0) i hi (subst IsByte (sym (right i)) (hy .bytes i))
+        ∙ ap₂ add
+        (sum-ext s (λ k. mul (entry s m i k) (getD (x ++ y) k 0)) (λ k. mul (entry s m i k) (getD x k 0))
+        (λ k hk. ap (mul (entry s m i k)) (left k hk)))
+        (right i)
+
+    at-end : (i : ℕ) → i < s → against s end i (λ k. getD (x ++ y) k 0) ≡ add (getD x i 0) (sum s (λ k. mul (entry s n i k) (getD y k 0)))
+    at-end i hi =
+        units-against s end (reduced .units) (λ k. getD (x ++ y) k 0) i hi (subst IsByte (sym (left i hi)) (hx .bytes i))
+        ∙ ap₂ add (left i hi)
+        (sum-ext s (λ k. mul (grid end i (s + k)) (getD (x ++ y) (s + k) 0)) (λ k. mul (entry s n i k) (getD y k 0))
+        (λ k hk. ap₂ mul (sym (written i k hi hk)) (right k)))
+
+    solved : apply s m x ≡ y ↔ x ≡ apply s n y
+    solved = (
+      λ e.
+          let kills = reduced .same (λ k. getD (x ++ y) k 0) .0 (λ i hi. at-start i hi ∙ add-eq-zero _ _ (apply-at s m x y e i hi)) in
+          sym (apply-is s n y x (hx .count) (λ i hi. sym (add-zero-eq _ _ (sym (at-end i hi) ∙ kills i hi)))),
+      λ e.
+          let kills = reduced .same (λ k. getD (x ++ y) k 0) .1 (λ i hi. at-end i hi ∙ add-eq-zero _ _ (sym (apply-at s n y x (sym e) i hi))) in
+          apply-is s m x y (hy .count) (λ i hi. add-zero-eq _ _ (sym (at-start i hi) ∙ kills i hi)),
+    )
+
+  pub inverted : length n ≡ s * s → Bytes n → IsInverse s m n
+  inverted en hn = record { count = en; bytes = hn; solves = solved }
+
+-- ---- a column without a pivot
+
+module _ (s j : ℕ) (m start end : List ℕ) (loaded : Loaded s m start) (stuck : StuckAt s j start end) (hm : Bytes m) where
+  -- what stands above the missing pivot
+  above : ℕ → ℕ
+  above k = orElse (ltb k j) (grid end k j) 0
+
+  above-low : (k : ℕ) → k < j → above k ≡ grid end k j
+  unfolding above
+  above-low k h = ap (λ (b : Bool). orElse b (grid end k j) 0) (lt-ltb k j h)
+
+  above-high : (k : ℕ) → j ≤ k → above k ≡ 0
+  unfolding above
+  above-high k h = ap (λ (b : Bool). orElse b (grid end k j) 0) (le-ltb k j h)
+
+  above-byte : (k : ℕ) → IsByte (above k)
+  above-byte k =
+      ⊎-elim (λ h. subst IsByte (sym (above-low k h)) (stuck .bytes (k * 64 + j))) (λ h. subst IsByte (sym (above-high k h)) (zero-lt-suc 255)) (lt-or k j)
+
+  above-row : (i : ℕ) → i < s → above i ≡ grid end i j
+  above-row i hi = ⊎-elim (above-low i) (λ h. above-high i h ∙ sym (stuck .missing i hi h)) (lt-or i j)
+
+  -- with 1 at the pivot's place, it is taken to zero
+  kernel : ℕ → ℕ
+  kernel k = add (above k) (unit k j)
+
+  split-kernel : (n : ℕ) (f : ℕ → ℕ) → j < n → IsByte (f j)
+      → sum n (λ k. mul (f k) (kernel k)) ≡ add (sum n (λ k. mul (f k) (above k))) (f j)
+  unfolding kernel
+  split-kernel n f hj byte =
+      sum-ext n (λ k. mul (f k) (kernel k)) (λ k. add (mul (f k) (above k)) (mul (f k) (unit k j))) (λ k hk. mul-add-right (f k) (above k) (unit k j))
+      ∙ sum-add n (λ k. mul (f k) (above k)) (λ k. mul (f k) (unit k j))
+      ∙ ap (add (sum n (λ k. mul (f k) (above k)))) (sum-unit n j f hj byte)
+
+  above-against : (i : ℕ) → i < s → against s end i above ≡ grid end i j
+  above-against i hi =
+      sum-ext (s + s) (λ k. mul (grid end i k) (above k)) (λ k. mul (unit i k) (above k))
+      (λ k hk.
+      ⊎-elim (λ h. ap (λ (x : ℕ). mul x (above k)) (stuck .reduced .units i k hi h))
+      (λ h.
+      ap (mul (grid end i k)) (above-high k h) ∙ mul-zero-right (grid end i k) ∙ sym (mul-zero-right (unit i k))
+      ∙ ap (mul (unit i k)) (sym (above-high k h)))
+      (lt-or k j))
+      ∙ unit-sum (s + s) i above (omega arith) (above-byte i)
+      ∙ above-row i hi
+
+  killed : Kills s start kernel
+  killed =
+      stuck .reduced .same kernel .1
+      (λ i hi.
+      split-kernel (s + s) (grid end i) (omega (arith, stuck .within)) (stuck .bytes (i * 64 + j))
+      ∙ ap (λ (x : ℕ). add x (grid end i j)) (above-against i hi)
+      ∙ add-self (grid end i j))
+
+  kernel-right : (i : ℕ) → kernel (s + i) ≡ 0
+  unfolding kernel
+  kernel-right i =
+      ap₂ add (above-high (s + i) (omega (arith, stuck .within))) (unit-other (s + i) j (λ e. omega (arith, stuck .within))) ∙ add-zero-left 0
+
+  kernel-row : (i : ℕ) → i < s → sum s (λ k. mul (entry s m i k) (kernel k)) ≡ 0
+  kernel-row i hi =
+      sym (add-zero-right _) ∙ ap (add (sum s (λ k. mul (entry s m i k) (kernel k)))) (sym (kernel-right i))
+      ∙ sym (loaded-against s m start loaded kernel i hi (subst IsByte (sym (kernel-right i)) (zero-lt-suc 255)))
+      ∙ killed i hi
+
+  apply-given : (f : ℕ → ℕ) (v : List ℕ) → length v ≡ s → ((i : ℕ) → i < s → sum s (λ k. mul (entry s m i k) (f k)) ≡ getD v i 0)
+      → apply s m (tabulate s f) ≡ v
+  apply-given f v e h =
+      apply-is s m (tabulate s f) v e (λ i hi. sym (apply-entry s m (tabulate s f) i hi) ∙ apply-tabulate s m f i hi ∙ h i hi)
+
+  pub singular : Singular s m
+  unfolding kernel
+  singular =
+      record {
+        vector = tabulate s kernel;
+        sized = vector-tabulate s kernel (λ k. add-byte (above k) (unit k j) (above-byte k) (unit-byte k j));
+        nonzero =
+            λ e.
+            let one : kernel j ≡ 1 = ap₂ add (above-high j (omega arith)) (unit-same j) ∙ add-zero-left 1 in
+            let none : kernel j ≡ 0 =
+            sym (getD-tabulate s kernel j (stuck .within)) ∙ ap (λ (l : List ℕ). getD l j 0) e ∙ getD-replicate {A = ℕ} s j 0 0 (stuck .within) in
+            omega arith;
+        taken =
+            apply-given kernel (replicate s 0) (length-replicate {A = ℕ} s 0)
+            (λ i hi. kernel-row i hi ∙ sym (getD-replicate {A = ℕ} s i 0 0 hi));
+      }
+
+  pub dependent : Dependent s m (j + 1)
+  unfolding column entry
+  dependent =
+      record {
+        place = j;
+        counted = add-one j;
+        within = stuck .within;
+        multiples = tabulate s above;
+        sized = vector-tabulate s above above-byte;
+        others = getD-tabulate s above j (stuck .within) ∙ above-high j (omega arith);
+        combined =
+            apply-given above (column s m j) (length-tabulate s _)
+            (λ i hi.
+            add-zero-eq _ _ (sym (split-kernel s (entry s m i) (stuck .within) (hm (i * s + j))) ∙ kernel-row i hi)
+            ∙ sym (getD-tabulate s (λ i. entry s m i j) i hi));
+      }

@@ -1,0 +1,40 @@
+-- The identity's entries, and sums against them: one term is left. Assumes nothing.
+use mathlib.Core.Path.{_≡_, refl, sym, ap, _∙_}
+use mathlib.Core.Bool.{Bool, true, false}
+use Prim.Native.Nat.{ℕ, _<_}
+use native.Mathlib.Omega.{arith}
+use lib.Dec.{eqb}
+use borrow.Author.Tests.{eq-eqb, ne-eqb}
+use Rattle.base.specs.Gate.{orElse}
+use Rattle.field.specs.Field.{IsByte, mul}
+use Rattle.field.specs.FiniteSum.{sum}
+use Rattle.field.proofs.Multiplication.{mul-zero-left, mul-zero-right, mul-one-left, mul-one-right}
+use Rattle.field.proofs.FiniteSum.{sum-one}
+use Rattle.matrix.specs.Product.{unit}
+
+pub unit-same : (i : ℕ) → unit i i ≡ 1
+unfolding unit
+unit-same i = ap (λ (b : Bool). orElse b 1 0) (eq-eqb i i refl)
+
+pub unit-other : (i j : ℕ) → (i ≡ j → ⊥) → unit i j ≡ 0
+unfolding unit
+unit-other i j ne = ap (λ (b : Bool). orElse b 1 0) (ne-eqb i j ne)
+
+pub unit-byte : (i j : ℕ) → IsByte (unit i j)
+unfolding unit
+unit-byte i j = go (eqb i j)
+  where
+    go : (b : Bool) → IsByte (orElse b 1 0)
+    go true = omega arith
+    go false = omega arith
+
+pub unit-sum : (n i : ℕ) (f : ℕ → ℕ) → i < n → IsByte (f i) → sum n (λ k. mul (unit i k) (f k)) ≡ f i
+unit-sum n i f hi hf =
+    sum-one n i (λ k. mul (unit i k) (f k)) hi
+    (λ k hk ne. ap (λ (x : ℕ). mul x (f k)) (unit-other i k (λ e. ne (sym e))) ∙ mul-zero-left (f k))
+    ∙ ap (λ (x : ℕ). mul x (f i)) (unit-same i) ∙ mul-one-left (f i) hf
+
+pub sum-unit : (n j : ℕ) (f : ℕ → ℕ) → j < n → IsByte (f j) → sum n (λ k. mul (f k) (unit k j)) ≡ f j
+sum-unit n j f hj hf =
+    sum-one n j (λ k. mul (f k) (unit k j)) hj (λ k hk ne. ap (mul (f k)) (unit-other k j ne) ∙ mul-zero-right (f k))
+    ∙ ap (mul (f j)) (unit-same j) ∙ mul-one-right (f j) hf

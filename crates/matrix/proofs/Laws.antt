@@ -1,0 +1,250 @@
+-- Laws of matrices of any side. A column of a matrix is what the matrix takes a column of the identity to; so an inverse, which is defined by
+-- what it takes vectors to, is known by its entries. Assumes nothing.
+use mathlib.Core.Path.{_≡_, refl, sym, ap, ap₂, _∙_, subst}
+use mathlib.Core.Bool.{Bool, true, false}
+use mathlib.Core.List.{List, [], _∷_}
+use mathlib.Core.Logic.{⊎-elim}
+use Prim.Native.Nat.{ℕ, zero, suc, _+_, _*_, _≤_, _<_}
+use native.Mathlib.Nat.{zero-lt-suc}
+use native.Mathlib.Omega.{arith}
+use lib.ListN.{length, getD, replicate, length-replicate, getD-replicate, List·getD-eq-default}
+use lib.Seq.{ext-getD}
+use borrow.Author.Tests.{le-leb, eq-eqb}
+use Rattle.base.specs.Gate.{Question, firstNo}
+use Rattle.base.specs.Seq.{tabulate, cell}
+use Rattle.base.proofs.Cases.{lt-or}
+use Rattle.base.proofs.Seq.{length-tabulate, getD-tabulate, length-blocks, cell-blocks, cells-ext}
+use Rattle.field.specs.Field.{IsByte, Bytes, add, mul}
+use Rattle.field.specs.FiniteSum.{sum}
+use Rattle.field.proofs.Multiplication.{mul-add-right, mul-assoc, mul-byte, mul-zero-right}
+use Rattle.field.proofs.FiniteSum.{sum-byte, sum-ext, sum-zeros, sum-add, mul-sum, sum-mul, sum-exchange}
+use Rattle.matrix.specs.Matrix.{Vector, entry, apply, IsInverse, Singular}
+use Rattle.matrix.specs.Invert.{number, sideAsked, lengthsAsked, inverseAsked, InvertPost}
+use Rattle.matrix.specs.Product.{unit, identity, product, plus}
+use Rattle.matrix.specs.declared.Inversion.{Inversion}
+use Rattle.matrix.proofs.Identity.{unit-byte, unit-sum, sum-unit}
+
+-- ---- lists by their entries
+
+-- all bytes, if the first s are
+bytes-of : (s : ℕ) (v : List ℕ) → length v ≡ s → ((i : ℕ) → i < s → IsByte (getD v i 0)) → Bytes v
+bytes-of s v e h i =
+    ⊎-elim (h i) (λ past. subst IsByte (sym (List·getD-eq-default v 0 (subst (λ (n : ℕ). n ≤ i) (sym e) past))) (zero-lt-suc 255)) (lt-or i s)
+
+pub vector-tabulate : (s : ℕ) (f : ℕ → ℕ) → ((i : ℕ) → IsByte (f i)) → Vector s (tabulate s f)
+vector-tabulate s f hf =
+    record {
+      count = length-tabulate s f;
+      bytes = bytes-of s (tabulate s f) (length-tabulate s f) (λ i hi. subst IsByte (sym (getD-tabulate s f i hi)) (hf i));
+    }
+
+vector-ext : (s : ℕ) (v w : List ℕ) → length v ≡ s → length w ≡ s → ((i : ℕ) → i < s → getD v i 0 ≡ getD w i 0) → v ≡ w
+vector-ext s v w ev ew h = ext-getD 0 v w (ev ∙ sym ew) (λ i hi. h i (subst (λ (n : ℕ). i < n) ev hi))
+
+-- matrices with equal entries are equal
+pub entries-ext : (s : ℕ) (m n : List ℕ) → length m ≡ s * s → length n ≡ s * s
+    → ((i j : ℕ) → i < s → j < s → entry s m i j ≡ entry s n i j) → m ≡ n
+unfolding entry cell
+entries-ext zero m n em en h = ext-getD 0 m n (em ∙ sym en) (λ i hi. omega (arith, em))
+entries-ext (suc s) m n em en h = cells-ext (suc s) (suc s) m n (zero-lt-suc s) em en h
+
+-- ---- matrix times vector
+
+pub length-apply : (s : ℕ) (m v : List ℕ) → length (apply s m v) ≡ s
+unfolding apply
+length-apply s m v = length-tabulate s _
+
+pub apply-entry : (s : ℕ) (m v : List ℕ) (i : ℕ) → i < s → getD (apply s m v) i 0 ≡ sum s (λ j. mul (entry s m i j) (getD v j 0))
+unfolding apply
+apply-entry s m v i hi = getD-tabulate s (λ i. sum s (λ j. mul (entry s m i j) (getD v j 0))) i hi
+
+pub apply-vector : (s : ℕ) (m v : List ℕ) → Vector s (apply s m v)
+unfolding apply
+apply-vector s m v = vector-tabulate s _ (λ i. sum-byte s _ (λ j hj. mul-byte (entry s m i j) (getD v j 0)))
+
+-- what a matrix takes a vector to, by entries
+pub apply-is : (s : ℕ) (m v w : List ℕ) → length w ≡ s → ((i : ℕ) → i < s → sum s (λ j. mul (entry s m i j) (getD v j 0)) ≡ getD w i 0)
+    → apply s m v ≡ w
+apply-is s m v w e h = vector-ext s (apply s m v) w (length-apply s m v) e (λ i hi. apply-entry s m v i hi ∙ h i hi)
+
+pub apply-at : (s : ℕ) (m v w : List ℕ) → apply s m v ≡ w → (i : ℕ) → i < s → sum s (λ j. mul (entry s m i j) (getD v j 0)) ≡ getD w i 0
+apply-at s m v w e i hi = sym (apply-entry s m v i hi) ∙ ap (λ (l : List ℕ). getD l i 0) e
+
+-- of a vector given by its entries
+pub apply-tabulate : (s : ℕ) (m : List ℕ) (f : ℕ → ℕ) (i : ℕ) → i < s
+    → getD (apply s m (tabulate s f)) i 0 ≡ sum s (λ j. mul (entry s m i j) (f j))
+apply-tabulate s m f i hi =
+    apply-entry s m (tabulate s f) i hi
+    ∙ sum-ext s (λ j. mul (entry s m i j) (getD (tabulate s f) j 0)) (λ j. mul (entry s m i j) (f j))
+    (λ j hj. ap (mul (entry s m i j)) (getD-tabulate s f j hj))
+
+pub apply-zeros : (s : ℕ) (m : List ℕ) → apply s m (replicate s 0) ≡ replicate s 0
+apply-zeros s m =
+    apply-is s m (replicate s 0) (replicate s 0) (length-replicate {A = ℕ} s 0)
+    (λ i hi.
+    sum-zeros s _ (λ j hj. ap (mul (entry s m i j)) (getD-replicate {A = ℕ} s j 0 0 hj) ∙ mul-zero-right (entry s m i j))
+    ∙ sym (getD-replicate {A = ℕ} s i 0 0 hi))
+
+pub apply-plus : (s : ℕ) (m u v : List ℕ) → apply s m (plus s u v) ≡ plus s (apply s m u) (apply s m v)
+unfolding plus
+apply-plus s m u v =
+    vector-ext s (apply s m (plus s u v)) (plus s (apply s m u) (apply s m v)) (length-apply s m (plus s u v)) (length-tabulate s _)
+    (λ i hi.
+    apply-tabulate s m (λ j. add (getD u j 0) (getD v j 0)) i hi
+    ∙ sum-ext s (λ j. mul (entry s m i j) (add (getD u j 0) (getD v j 0))) (λ j. add (mul (entry s m i j) (getD u j 0)) (mul (entry s m i j) (getD v j 0)))
+    (λ j hj. mul-add-right (entry s m i j) (getD u j 0) (getD v j 0))
+    ∙ sum-add s (λ j. mul (entry s m i j) (getD u j 0)) (λ j. mul (entry s m i j) (getD v j 0))
+    ∙ sym (ap₂ add (apply-entry s m u i hi) (apply-entry s m v i hi))
+    ∙ sym (getD-tabulate s (λ i. add (getD (apply s m u) i 0) (getD (apply s m v) i 0)) i hi))
+
+-- ---- product and identity
+
+pub length-product : (s : ℕ) (m n : List ℕ) → length (product s m n) ≡ s * s
+unfolding product
+length-product s m n = length-blocks s s _
+
+pub product-entry : (s : ℕ) (m n : List ℕ) (i j : ℕ) → i < s → j < s
+    → entry s (product s m n) i j ≡ sum s (λ k. mul (entry s m i k) (entry s n k j))
+unfolding product cell entry
+product-entry s m n i j hi hj = cell-blocks s s (λ i j. sum s (λ k. mul (entry s m i k) (entry s n k j))) i j hi hj
+
+pub length-identity : (s : ℕ) → length (identity s) ≡ s * s
+unfolding identity
+length-identity s = length-blocks s s unit
+
+pub identity-entry : (s i j : ℕ) → i < s → j < s → entry s (identity s) i j ≡ unit i j
+unfolding identity cell entry
+identity-entry s i j hi hj = cell-blocks s s unit i j hi hj
+
+pub apply-product : (s : ℕ) (m n v : List ℕ) → apply s (product s m n) v ≡ apply s m (apply s n v)
+apply-product s m n v =
+    apply-is s (product s m n) v (apply s m (apply s n v)) (length-apply s m (apply s n v))
+    (λ i hi.
+    sum-ext s (λ j. mul (entry s (product s m n) i j) (getD v j 0)) (λ j. sum s (λ k. mul (entry s m i k) (mul (entry s n k j) (getD v j 0))))
+    (λ j hj.
+    ap (λ (x : ℕ). mul x (getD v j 0)) (product-entry s m n i j hi hj)
+    ∙ sum-mul s (getD v j 0) (λ k. mul (entry s m i k) (entry s n k j))
+    ∙ sum-ext s (λ k. mul (mul (entry s m i k) (entry s n k j)) (getD v j 0)) (λ k. mul (entry s m i k) (mul (entry s n k j) (getD v j 0)))
+    (λ k hk. mul-assoc (entry s m i k) (entry s n k j) (getD v j 0)))
+    ∙ sum-exchange s s (λ j k. mul (entry s m i k) (mul (entry s n k j) (getD v j 0)))
+    ∙ sum-ext s (λ k. sum s (λ j. mul (entry s m i k) (mul (entry s n k j) (getD v j 0)))) (λ k. mul (entry s m i k) (getD (apply s n v) k 0))
+    (λ k hk.
+    sym (mul-sum s (entry s m i k) (λ j. mul (entry s n k j) (getD v j 0)))
+    ∙ ap (mul (entry s m i k)) (sym (apply-entry s n v k hk)))
+    ∙ sym (apply-entry s m (apply s n v) i hi))
+
+pub apply-identity : (s : ℕ) (v : List ℕ) → Vector s v → apply s (identity s) v ≡ v
+apply-identity s v hv =
+    apply-is s (identity s) v v (hv .count)
+    (λ i hi.
+    sum-ext s (λ j. mul (entry s (identity s) i j) (getD v j 0)) (λ j. mul (unit i j) (getD v j 0))
+    (λ j hj. ap (λ (x : ℕ). mul x (getD v j 0)) (identity-entry s i j hi hj))
+    ∙ unit-sum s i (λ j. getD v j 0) hi (hv .bytes i))
+
+-- column j of the identity
+basis : ℕ → ℕ → List ℕ
+basis s j = tabulate s (λ i. unit i j)
+
+basis-at : (s j i : ℕ) → i < s → getD (basis s j) i 0 ≡ unit i j
+unfolding basis
+basis-at s j i hi = getD-tabulate s (λ i. unit i j) i hi
+
+basis-vector : (s j : ℕ) → Vector s (basis s j)
+unfolding basis
+basis-vector s j = vector-tabulate s (λ i. unit i j) (λ i. unit-byte i j)
+
+-- the matrix takes it to its own column j
+apply-basis : (s : ℕ) (m : List ℕ) (i j : ℕ) → Bytes m → i < s → j < s → getD (apply s m (basis s j)) i 0 ≡ entry s m i j
+unfolding basis entry
+apply-basis s m i j hm hi hj = apply-tabulate s m (λ i. unit i j) i hi ∙ sum-unit s j (entry s m i) hj (hm (i * s + j))
+
+-- a product that takes each column of the identity to itself is the identity
+product-identity : (s : ℕ) (m n : List ℕ) → Bytes n → ((j : ℕ) → j < s → apply s m (apply s n (basis s j)) ≡ basis s j)
+    → product s m n ≡ identity s
+product-identity s m n hn h =
+    entries-ext s (product s m n) (identity s) (length-product s m n) (length-identity s)
+    (λ i j hi hj.
+    product-entry s m n i j hi hj
+    ∙ sum-ext s (λ k. mul (entry s m i k) (entry s n k j)) (λ k. mul (entry s m i k) (getD (apply s n (basis s j)) k 0))
+    (λ k hk. ap (mul (entry s m i k)) (sym (apply-basis s n k j hn hk hj)))
+    ∙ apply-at s m (apply s n (basis s j)) (basis s j) (h j hj) i hi ∙ basis-at s j i hi
+    ∙ sym (identity-entry s i j hi hj))
+
+-- ---- the inverse
+
+module _ (s : ℕ) (m n : List ℕ) (inv : IsInverse s m n) where
+  -- m takes back what n takes a vector to, and the other way round
+  pub takes-back : (y : List ℕ) → Vector s y → apply s m (apply s n y) ≡ y
+  takes-back y hy = inv .solves (apply s n y) y (apply-vector s n y) hy .1 refl
+
+  pub taken-back : (x : List ℕ) → Vector s x → apply s n (apply s m x) ≡ x
+  taken-back x hx = sym (inv .solves x (apply s m x) hx (apply-vector s m x) .0 refl)
+
+  pub product-right : product s m n ≡ identity s
+  product-right = product-identity s m n (inv .bytes) (λ j hj. takes-back (basis s j) (basis-vector s j))
+
+  pub product-left : Bytes m → product s n m ≡ identity s
+  product-left hm = product-identity s n m hm (λ j hj. taken-back (basis s j) (basis-vector s j))
+
+  pub not-singular : Singular s m → ⊥
+  not-singular g =
+      g .nonzero
+      (inv .solves (g .vector) (replicate s 0) (g .sized) zeros .0 (g .taken) ∙ apply-zeros s n)
+    where
+      zeros : Vector s (replicate s 0)
+      zeros = subst (Vector s) (apply-zeros s n) (apply-vector s n (replicate s 0))
+
+pub inverse-unique : (s : ℕ) (m n n′ : List ℕ) → IsInverse s m n → IsInverse s m n′ → n ≡ n′
+inverse-unique s m n n′ inv inv′ =
+    entries-ext s n n′ (inv .count) (inv′ .count)
+    (λ i j hi hj.
+    sym (apply-basis s n i j (inv .bytes) hi hj)
+    ∙ ap (λ (l : List ℕ). getD l i 0)
+    (inv′ .solves (apply s n (basis s j)) (basis s j) (apply-vector s n (basis s j)) (basis-vector s j) .0 (takes-back s m n inv (basis s j) (basis-vector s j)))
+    ∙ apply-basis s n′ i j (inv′ .bytes) hi hj)
+
+-- what both products show
+pub inverse-by-products : (s : ℕ) (m n : List ℕ) → length n ≡ s * s → Bytes n → product s m n ≡ identity s → product s n m ≡ identity s
+    → IsInverse s m n
+inverse-by-products s m n en hn right left =
+    record {
+      count = en;
+      bytes = hn;
+      solves =
+          λ x y hx hy. (
+            λ e.
+                sym (apply-identity s x hx) ∙ ap (λ (l : List ℕ). apply s l x) (sym left) ∙ apply-product s n m x ∙ ap (apply s n) e,
+            λ e.
+                ap (apply s m) e ∙ sym (apply-product s m n y) ∙ ap (λ (l : List ℕ). apply s l y) right ∙ apply-identity s y hy,
+          );
+    }
+
+-- ---- for callers of `invert`
+
+-- the first two questions answered yes
+pub record Open (s : ℕ) (m old : List ℕ) : Type 0 where
+  pub low : 1 ≤ s
+  pub high : s ≤ 32
+  pub matrix : length m ≡ s * s
+  pub buffer : length old ≡ s * s
+
+-- the rest decides
+pub gate-open : (s : ℕ) (m old : List ℕ) (rest : List Question) → Open s m old
+    → firstNo (sideAsked s ∷ lengthsAsked s m old ∷ rest) ≡ firstNo rest
+unfolding firstNo
+gate-open s m old rest o =
+    simp (le-leb 1 s (o .low), le-leb s 32 (o .high), eq-eqb (length m) (s * s) (o .matrix), eq-eqb (length old) (s * s) (o .buffer))
+
+-- a matrix that takes only the zero vector to zero is inverted
+pub accepted : (s : ℕ) (m old new : List ℕ) (answer : Inversion) → InvertPost s m old answer new → Open s m old
+    → ((v : List ℕ) → Vector s v → apply s m v ≡ replicate s 0 → v ≡ replicate s 0) → (number answer ≡ 0) × IsInverse s m new
+unfolding firstNo
+accepted s m old new answer post o only = go (post .hasInverse) refl
+  where
+    go : (b : Bool) → post .hasInverse ≡ b → (number answer ≡ 0) × IsInverse s m new
+    go true e =
+        let none : number answer ≡ 0 =
+        post .first ∙ gate-open s m old (inverseAsked (post .hasInverse) ∷ []) o ∙ ap (λ (b : Bool). firstNo (inverseAsked b ∷ [])) e in
+        (none, post .served none)
+    go false e =
+        let g = post .asked (gate-open s m old [] o) .0 e in absurd (g .nonzero (only (g .vector) (g .sized) (g .taken)))

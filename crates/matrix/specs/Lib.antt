@@ -1,0 +1,4 @@
+pub mod Matrix
+pub mod Invert
+pub mod Product
+pub mod Working

@@ -1,0 +1,25 @@
+-- The product of two square matrices, the identity, and the sum of two vectors, by their entries. Assumes nothing.
+use mathlib.Core.List.{List}
+use Prim.Native.Nat.{ℕ}
+use lib.Dec.{eqb}
+use lib.ListN.{getD}
+use Rattle.base.specs.Gate.{orElse}
+use Rattle.base.specs.Seq.{tabulate, blocks}
+use Rattle.field.specs.Field.{add, mul}
+use Rattle.field.specs.FiniteSum.{sum}
+use Rattle.matrix.specs.Matrix.{entry}
+
+-- 1 where the two numbers are the same, else 0
+unfoldable pub unit : ℕ → ℕ → ℕ
+unit i j = orElse (eqb i j) 1 0
+
+unfoldable pub identity : ℕ → List ℕ
+identity s = blocks s s unit
+
+-- Row i of m against column j of n.
+unfoldable pub product : ℕ → List ℕ → List ℕ → List ℕ
+product s m n = blocks s s (λ i j. sum s (λ k. mul (entry s m i k) (entry s n k j)))
+
+-- The sum of two vectors of s entries.
+unfoldable pub plus : ℕ → List ℕ → List ℕ → List ℕ
+plus s u v = tabulate s (λ i. add (getD u i 0) (getD v i 0))
