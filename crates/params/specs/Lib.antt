@@ -1,0 +1,4 @@
+pub mod Nodes
+pub mod Params
+pub mod Gates
+pub mod Valid

@@ -1,0 +1,48 @@
+-- Nodes and node sets (document 01, "The arrangement and the record"). A set is also a test on node numbers, f : ℕ → Bool. Assumes nothing.
+use mathlib.Core.Path.{_≡_}
+use mathlib.Core.Bool.{Bool, true, false, not, _&&_}
+use mathlib.Core.List.{List, [], _∷_, _++_}
+use Prim.Native.Nat.{ℕ, zero, suc, _+_, _/_, _%_, _^_}
+use lib.Dec.{leb, ltb, eqb}
+use lib.Bits.{bitAnd}
+use lib.Count.{ones}
+
+-- "A choice of traps is a 32-bit number; trap i is worth 2^(i−1), so no trap can be named twice." Node suc j is in the set when bit j is 1.
+unfoldable pub has : ℕ → ℕ → Bool
+has s zero = false
+has s (suc j) = eqb (s / 2 ^ j % 2) 1
+
+-- "Its size is its count of one bits."
+unfoldable pub size : ℕ → ℕ
+size s = ones s
+
+-- "Does each choice name only traps up to its n?"
+unfoldable pub within : ℕ → ℕ → Bool
+within n s = ltb s (2 ^ n)
+
+-- "Is L free of R's traps?"
+unfoldable pub disjoint : ℕ → ℕ → Bool
+disjoint l r = eqb (bitAnd l r) 0
+
+-- 1 for a node that passes the test, 0 for another.
+abbrev pub one : Bool → ℕ
+one true = 1
+one false = 0
+
+-- How many of the nodes 1..n pass the test f: for a node of a set, its rank is the count below it.
+unfoldable pub count : (ℕ → Bool) → ℕ → ℕ
+count f zero = 0
+count f (suc n) = count f n + one (f (suc n))
+
+abbrev pub only : Bool → ℕ → List ℕ
+only true i = i ∷ []
+only false i = []
+
+-- The nodes of 1..n that pass the test, in rising order.
+unfoldable pub nodes : (ℕ → Bool) → ℕ → List ℕ
+nodes f zero = []
+nodes f (suc n) = nodes f n ++ only (f (suc n)) (suc n)
+
+-- The nodes of 1..n outside the set, as a test.
+abbrev pub outside : ℕ → ℕ → ℕ → Bool
+outside n s i = (leb 1 i && leb i n) && not (has s i)

@@ -1,0 +1,20 @@
+-- Code parameters (document 01, "The arrangement and the record"). Assumes nothing.
+use Prim.Native.Nat.{ℕ, _+_, _-_}
+use Rattle.params.specs.declared.Params.{Params}
+use Rattle.params.specs.declared.Shape.{Shape}
+
+-- "The slack has l = r − k = n − w parts."
+unfoldable pub slackParts : Params → ℕ
+slackParts a = a .n - a .w
+
+-- The working number: how many nodes' blocks determine message and slack. It is r (proofs/Valid.antt).
+unfoldable pub working : Params → ℕ
+unfolding slackParts
+working a = a .k + slackParts a
+
+abbrev pub shapeOf : Params → Shape
+shapeOf a = record { k = a .k; r = a .r; w = a .w; n = a .n }
+
+-- The parameters of another shape "with the same B".
+abbrev pub reshaped : Params → Shape → Params
+reshaped a t = record { k = t .k; r = t .r; w = t .w; n = t .n; b = a .b }
