@@ -1,0 +1,350 @@
+-- Each call's post-condition is met by exactly one answer and one content of its buffer: the answer is the gate's, and each byte of a served buffer is told
+-- through the one pair or the one slack (Pairs.antt). Assumes nothing.
+use mathlib.Core.Path.{_≡_, refl, sym, ap, _∙_, subst}
+use mathlib.Core.Logic.{_⊎_, inl, inr, ⊎-elim}
+use mathlib.Core.Bool.{Bool, true, false, cond}
+use mathlib.Core.List.{List, []}
+use Prim.Native.Nat.{ℕ, zero, suc, _*_, _<_}
+use native.Mathlib.Nat.{not-suc-le-zero}
+use native.Mathlib.Omega.{arith}
+use native.Mathlib.Decide.{ℕ-discrete}
+use lib.ListN.{length, getD}
+use Rattle.base.specs.Seq.{cell, blocks}
+use Rattle.base.proofs.Cases.{lt-or, eq-or}
+use Rattle.base.proofs.Seq.{cell-blocks, length-blocks, cells-ext}
+use Rattle.field.specs.Field.{Bytes, add}
+use Rattle.params.specs.Nodes.{has, count, nodes}
+use Rattle.params.specs.Params.{working, reshaped}
+use Rattle.params.specs.Gates.{checkGate, viewGate}
+use Rattle.params.specs.Valid.{Valid, DeltaAccepted}
+use Rattle.params.specs.declared.Params.{Params}
+use Rattle.params.specs.declared.Shape.{Shape}
+use Rattle.params.proofs.Sets.{rank-lt, node-at-rank, entry, within-size}
+use Rattle.params.proofs.Valid.{encode-accepted, check-accepted, decode-accepted, delta-accepted, update-accepted, repair-accepted, reconfigure-accepted}
+use Rattle.code.specs.Code.{block, upTo}
+use Rattle.code.specs.Calls.{Post, Encoded, EncodePost, Decoded, DecodePost, Differences, DeltaPost, Updated, UpdatePost, Repaired, RepairPost, writes, Reconfigured, ReconfigurePost, number, nodeNumber, Same, Checked, CheckPost, ViewPost}
+use Rattle.code.specs.declared.Verdict.{Verdict}
+use Rattle.code.specs.declared.Verdict.the-variants.{Refused, Agrees, Differs}
+use Rattle.code.proofs.Pairs.{slack-exists, slack-unique, written-leaves, spread-exists, spread-unique, pair-exists, pair-unique, pair-blocks, from-reads, first-reads}
+use Rattle.code.proofs.Additivity.{block-byte}
+
+-- Some answer and buffer meet the post-condition, ..
+abbrev pub Met : (ℕ → List ℕ → Type 0) → Type 0
+Met P = (answer : ℕ) × (new : List ℕ) × P answer new
+
+-- .. and only one.
+abbrev pub Once : (ℕ → List ℕ → Type 0) → Type 0
+Once P = (answer answer′ : ℕ) (new new′ : List ℕ) → P answer new → P answer′ new′ → (answer ≡ answer′) × (new ≡ new′)
+
+-- two answers of one gate: both served or both refused
+alike : {gate answer answer′ : ℕ} {A A′ B B′ C : Type 0} → (gate ≡ 0 → A → A′ → C) → (B → B′ → C) → Post gate answer A B → Post gate answer′ A′ B′ → C
+alike {gate} f g t t′ =
+    ⊎-elim (λ z. f z (t .served (t .number ∙ z)) (t′ .served (t′ .number ∙ z)))
+    (λ ne. g (t .refused (λ z. ne (sym (t .number) ∙ z))) (t′ .refused (λ z. ne (sym (t′ .number) ∙ z)))) (eq-or gate 0)
+
+-- for a call that leaves its buffer as it was where it is refused, the served buffer alone is in question
+module _ (gate : ℕ) (Served : List ℕ → Type 0) (old : List ℕ) where
+  post-met : (gate ≡ 0 → (new : List ℕ) × Served new) → Met (λ answer new. Post gate answer (Served new) (new ≡ old))
+  post-met f =
+      ⊎-elim (λ z. (gate, f z .0, record { number = refl; served = λ _. f z .1; refused = λ ne. absurd (ne z) }))
+      (λ ne. (gate, old, record { number = refl; served = λ z. absurd (ne z); refused = λ _. refl })) (eq-or gate 0)
+
+  post-once : (gate ≡ 0 → (new new′ : List ℕ) → Served new → Served new′ → new ≡ new′) → Once (λ answer new. Post gate answer (Served new) (new ≡ old))
+  post-once f answer answer′ new new′ t t′ = (t .number ∙ sym (t′ .number), alike (λ z. f z new new′) (λ e e′. e ∙ sym e′) t t′)
+
+-- ---- a list told at the nodes that pass a test by f, at the others by g
+
+record Split (b n : ℕ) (S : ℕ → Bool) (f g : ℕ → ℕ → ℕ) (new : List ℕ) : Type 0 where
+  length-is : length new ≡ n * b
+  passed : (j p : ℕ) → j < n → S (suc j) ≡ true → p < b → cell b new j p ≡ f j p
+  other : (j p : ℕ) → j < n → S (suc j) ≡ false → p < b → cell b new j p ≡ g j p
+
+module _ (b n : ℕ) (S : ℕ → Bool) (f g : ℕ → ℕ → ℕ) where
+  split-exists : (new : List ℕ) × Split b n S f g new
+  split-exists = (
+    blocks b n mixed,
+    record {
+      length-is = length-blocks b n mixed;
+      passed = λ j p hj s hp. cell-blocks b n mixed j p hj hp ∙ ap (λ (t : Bool). cond t (f j p) (g j p)) s;
+      other = λ j p hj s hp. cell-blocks b n mixed j p hj hp ∙ ap (λ (t : Bool). cond t (f j p) (g j p)) s;
+    },
+  )
+    where
+      mixed : ℕ → ℕ → ℕ
+      mixed j p = cond (S (suc j)) (f j p) (g j p)
+
+  split-unique : (f′ : ℕ → ℕ → ℕ) (new new′ : List ℕ) → 0 < b → ((j p : ℕ) → f j p ≡ f′ j p) → Split b n S f g new → Split b n S f′ g new′
+      → new ≡ new′
+  split-unique f′ new new′ hb same s s′ =
+      cells-ext b n new new′ hb (s .length-is) (s′ .length-is) (λ j p hj hp. go j p hj hp (S (suc j)) refl)
+    where
+      go : (j p : ℕ) → j < n → p < b → (t : Bool) → S (suc j) ≡ t → cell b new j p ≡ cell b new′ j p
+      go j p hj hp true e = s .passed j p hj e hp ∙ same j p ∙ sym (s′ .passed j p hj e hp)
+      go j p hj hp false e = s .other j p hj e hp ∙ sym (s′ .other j p hj e hp)
+
+-- ---- encode
+
+module _ (a : Params) (x v old : List ℕ) where
+  pub encode-met : Met (EncodePost a x v old)
+  encode-met =
+      post-met _ (Encoded a x v) old
+      (λ z. (
+        blocks (a .b) (a .n) (λ j. block a x v (suc j)),
+        record { length-is = length-blocks (a .b) (a .n) _; holds = λ j p hj hp. cell-blocks (a .b) (a .n) (λ j. block a x v (suc j)) j p hj hp },
+      ))
+
+  pub encode-once : Once (EncodePost a x v old)
+  encode-once =
+      post-once _ (Encoded a x v) old
+      (λ z new new′ e e′.
+      let g = encode-accepted a _ _ _ .0 z in
+      cells-ext (a .b) (a .n) new new′ (g .valid .b-low) (e .length-is) (e′ .length-is) (λ j p hj hp. e .holds j p hj hp ∙ sym (e′ .holds j p hj hp)))
+
+-- ---- decode
+
+module _ (a : Params) (codeword : List ℕ) (from : ℕ) (old : List ℕ) where
+  pub decode-met : Bytes codeword → Met (DecodePost a codeword from old)
+  decode-met bytes =
+      post-met _ (Decoded a codeword from) old
+      (λ z.
+      let g = decode-accepted a _ _ _ .0 z in
+      let e = pair-exists a (g .valid) (has from) (from-reads a from (g .valid) (g .from-within) (g .from-size)) codeword bytes in
+      (e .0, record { slack = e .1; gives = e .2 }))
+
+  pub decode-once : Once (DecodePost a codeword from old)
+  decode-once =
+      post-once _ (Decoded a codeword from) old
+      (λ z new new′ d d′.
+      let g = decode-accepted a _ _ _ .0 z in
+      pair-unique a (g .valid) (has from) (from-reads a from (g .valid) (g .from-within) (g .from-size)) new new′ (d .slack) (d′ .slack) codeword
+      (d .gives) (d′ .gives) .0)
+
+-- ---- delta
+
+module _ (a : Params) (d : List ℕ) (to : ℕ) (old : List ℕ) where
+  -- the ranks in W are 0 .. w - 1
+  ranks : DeltaAccepted a (length d) (length old) to → count (has to) (a .n) ≡ a .w
+  ranks g = sym (within-size (a .n) to (g .to-within)) ∙ g .to-size
+
+  pub delta-met : Met (DeltaPost a d to old)
+  delta-met =
+      post-met _ (Differences a d to) old
+      (λ z.
+      let g = delta-accepted a _ _ _ .0 z in
+      let s = spread-exists a to (g .valid) (g .to-within) (g .to-size) d in
+      let f : ℕ → ℕ → ℕ = λ i. block a d (s .0) (getD (nodes (has to) (a .n)) i 0) in (
+        blocks (a .b) (a .w) f,
+        record {
+          slack = s .0;
+          vanishes = s .1;
+          length-is = length-blocks (a .b) (a .w) f;
+          holds = λ j p hj e hp.
+              cell-blocks (a .b) (a .w) f (count (has to) j) p (omega (arith, rank-lt (has to) (a .n) j hj e, ranks g)) hp
+              ∙ ap (λ (i : ℕ). block a d (s .0) i p) (node-at-rank (has to) (a .n) j hj e);
+        },
+      ))
+
+  pub delta-once : Once (DeltaPost a d to old)
+  delta-once =
+      post-once _ (Differences a d to) old
+      (λ z new new′ s s′.
+      let g = delta-accepted a _ _ _ .0 z in
+      let same = spread-unique a to (g .valid) (g .to-within) (g .to-size) d (s .slack) (s′ .slack) (s .vanishes) (s′ .vanishes) in
+      cells-ext (a .b) (a .w) new new′ (g .valid .b-low) (s .length-is) (s′ .length-is)
+      (λ i p hi hp.
+      let q = entry (has to) (a .n) i (omega (arith, ranks g)) in
+      subst (λ (i : ℕ). cell (a .b) new i p ≡ cell (a .b) new′ i p) (q .4)
+      (s .holds (q .0) p (q .1) (q .2) hp ∙ ap (λ (v : List ℕ). block a d v (suc (q .0)) p) same ∙ sym (s′ .holds (q .0) p (q .1) (q .2) hp))))
+
+-- ---- update
+
+module _ (a : Params) (d : List ℕ) (to : ℕ) (old : List ℕ) where
+  -- the cell after the change, where v is the slack
+  sums : List ℕ → ℕ → ℕ → ℕ
+  sums v j p = add (cell (a .b) old j p) (block a d v (suc j) p)
+
+  pub update-met : Met (UpdatePost a d to old)
+  unfolding sums
+  update-met =
+      post-met _ (Updated a old d to) old
+      (λ z.
+      let g = update-accepted a _ _ _ .0 z in
+      let s = spread-exists a to (g .valid) (g .to-within) (g .to-size) d in
+      let n = split-exists (a .b) (a .n) (has to) (sums (s .0)) (cell (a .b) old) in
+      (n .0, record { slack = s .0; vanishes = s .1; length-is = n .1 .length-is; added = n .1 .passed; kept = n .1 .other }))
+
+  pub update-once : Once (UpdatePost a d to old)
+  unfolding sums
+  update-once =
+      post-once _ (Updated a old d to) old
+      (λ z new new′ u u′.
+      let g = update-accepted a _ _ _ .0 z in
+      let same = spread-unique a to (g .valid) (g .to-within) (g .to-size) d (u .slack) (u′ .slack) (u .vanishes) (u′ .vanishes) in
+      split-unique (a .b) (a .n) (has to) (sums (u .slack)) (cell (a .b) old) (sums (u′ .slack)) new new′ (g .valid .b-low)
+      (λ j p. ap (λ (v : List ℕ). sums v j p) same) (record { length-is = u .length-is; passed = u .added; other = u .kept })
+      (record { length-is = u′ .length-is; passed = u′ .added; other = u′ .kept }))
+
+-- ---- repair
+
+module _ (a : Params) (from lost : ℕ) (old : List ℕ) where
+  pub repair-met : Bytes old → Met (RepairPost a from lost old)
+  repair-met bytes =
+      post-met _ (Repaired a old from lost) old
+      (λ z.
+      let g = repair-accepted a _ _ _ .0 z in
+      let e = pair-exists a (g .valid) (has from) (from-reads a from (g .valid) (g .from-within) (g .from-size)) old bytes in
+      let n = split-exists (a .b) (a .n) (has lost) (λ j. block a (e .0) (e .1) (suc j)) (cell (a .b) old) in
+      (n .0, record { message = e .0; slack = e .1; gives = e .2; length-is = n .1 .length-is; rebuilt = n .1 .passed; kept = n .1 .other }))
+
+  pub repair-once : Once (RepairPost a from lost old)
+  repair-once =
+      post-once _ (Repaired a old from lost) old
+      (λ z new new′ r r′.
+      let g = repair-accepted a _ _ _ .0 z in
+      let full = from-reads a from (g .valid) (g .from-within) (g .from-size) in
+      split-unique (a .b) (a .n) (has lost) (λ j. block a (r .message) (r .slack) (suc j)) (cell (a .b) old) (λ j. block a (r′ .message) (r′ .slack) (suc j)) new
+      new′ (g .valid .b-low)
+      (λ j. pair-blocks a (g .valid) (has from) full (r .message) (r′ .message) (r .slack) (r′ .slack) old (r .gives) (r′ .gives) (suc j))
+      (record { length-is = r .length-is; passed = r .rebuilt; other = r .kept })
+      (record { length-is = r′ .length-is; passed = r′ .rebuilt; other = r′ .kept }))
+
+-- ---- reconfigure
+
+module _ (a : Params) (t : Shape) (old : List ℕ) (from to : ℕ) (x buffer : List ℕ) where
+  pub reconfigure-met : Bytes old → Bytes x → Met (ReconfigurePost a t old from to x buffer)
+  reconfigure-met bytes hx =
+      post-met _ (Reconfigured a t old from to x) buffer
+      (λ z.
+      let g = reconfigure-accepted a t _ _ _ _ _ .0 z in
+      let e = pair-exists a (g .valid) (has from) (from-reads a from (g .valid) (g .from-within) (g .from-size)) old bytes in
+      let s =
+      slack-exists (reshaped a t) (g .valid-new) (has to) (written-leaves (reshaped a t) to (g .valid-new) (g .to-within) (g .to-size)) x
+      (block a (e .0) (e .1)) (block-byte a (e .0) (e .1)) in
+      let n = split-exists (a .b) (t .n) (writes a to) (λ j. block (reshaped a t) x (s .0) (suc j)) (cell (a .b) old) in (
+        n .0,
+        record {
+          oldMessage = e .0;
+          oldSlack = e .1;
+          gives = e .2;
+          slack = s .0;
+          pair = record { message = record { length-is = g .message-length; bytes = hx }; slack = s .1 .parts };
+          agrees = s .1 .equal;
+          length-is = n .1 .length-is;
+          written = n .1 .passed;
+          copied = n .1 .other;
+        },
+      ))
+
+  pub reconfigure-once : Once (ReconfigurePost a t old from to x buffer)
+  reconfigure-once =
+      post-once _ (Reconfigured a t old from to x) buffer
+      (λ z new new′ r r′.
+      let g = reconfigure-accepted a t _ _ _ _ _ .0 z in
+      let before =
+      pair-blocks a (g .valid) (has from) (from-reads a from (g .valid) (g .from-within) (g .from-size)) (r .oldMessage) (r′ .oldMessage) (r .oldSlack)
+      (r′ .oldSlack) old (r .gives) (r′ .gives) in
+      let same =
+      slack-unique (reshaped a t) (g .valid-new) (has to) (written-leaves (reshaped a t) to (g .valid-new) (g .to-within) (g .to-size)) x
+      (block a (r .oldMessage) (r .oldSlack)) (r .slack) (r′ .slack) (record { parts = r .pair .slack; equal = r .agrees })
+      (record { parts = r′ .pair .slack; equal = λ j p hj s hp. r′ .agrees j p hj s hp ∙ sym (before (suc j) p) }) in
+      split-unique (a .b) (t .n) (writes a to) (λ j. block (reshaped a t) x (r .slack) (suc j)) (cell (a .b) old)
+      (λ j. block (reshaped a t) x (r′ .slack) (suc j)) new new′ (g .valid .b-low) (λ j p. ap (λ (v : List ℕ). block (reshaped a t) x v (suc j) p) same)
+      (record { length-is = r .length-is; passed = r .written; other = r .copied })
+      (record { length-is = r′ .length-is; passed = r′ .written; other = r′ .copied }))
+
+-- ---- check
+
+-- a claim that can be decided, at each number below a bound, and at the lowest where it fails
+all-below : (P : ℕ → Type 0) → ((i : ℕ) → Dec (P i)) → (n : ℕ)
+    → ((i : ℕ) → i < n → P i) ⊎ ((j : ℕ) × (j < n) × (P j → ⊥) × ((i : ℕ) → i < j → P i))
+all-below P dec zero = inl (λ i h. absurd (not-suc-le-zero h))
+all-below P dec (suc n) = go (all-below P dec n) (dec n)
+  where
+    go : ((i : ℕ) → i < n → P i) ⊎ ((j : ℕ) × (j < n) × (P j → ⊥) × ((i : ℕ) → i < j → P i)) → Dec (P n)
+        → ((i : ℕ) → i < suc n → P i) ⊎ ((j : ℕ) × (j < suc n) × (P j → ⊥) × ((i : ℕ) → i < j → P i))
+    go (inl all) (yes h) = inl (λ i hi. ⊎-elim (λ e. subst P (sym e) h) (λ ne. all i (omega arith)) (eq-or i n))
+    go (inl all) (no h) = inr (n, omega arith, h, all)
+    go (inr f) d = inr (f .0, omega (arith, f .1), f .2, f .3)
+
+same-dec : (a : Params) (x v codeword : List ℕ) (j : ℕ) → Dec (Same a x v codeword j)
+same-dec a x v codeword j =
+    ⊎-elim (λ all. yes all) (λ f. no (λ s. f .2 (s (f .0) (f .1))))
+    (all-below (λ p. block a x v (suc j) p ≡ cell (a .b) codeword j p) (λ p. ℕ-discrete _ _) (a .b))
+
+module _ (a : Params) (codeword : List ℕ) where
+  checked-exists : Valid a → Bytes codeword → (answer : Verdict) × (number answer ≡ 0) × Checked a codeword (nodeNumber answer)
+  checked-exists ok bytes =
+      let e = pair-exists a ok (upTo (working a)) (first-reads a ok) codeword bytes in
+      ⊎-elim
+      (λ all. (
+        Agrees,
+        refl,
+        record { message = e .0; slack = e .1; gives = e .2; sound = λ z j hj. all j hj; lowest = λ j z. absurd (omega arith) },
+      ))
+      (λ f. (
+        Differs (record { 0 = suc (f .0) }),
+        refl,
+        record {
+          message = e .0;
+          slack = e .1;
+          gives = e .2;
+          sound = λ z j hj. absurd (omega arith);
+          lowest = λ j z.
+              subst (λ (j : ℕ). (j < a .n) × (Same a (e .0) (e .1) codeword j → ⊥) × ((i : ℕ) → i < j → Same a (e .0) (e .1) codeword i)) (omega arith)
+              (f .1, f .2, f .3);
+        },
+      ))
+      (all-below (Same a (e .0) (e .1) codeword) (same-dec a (e .0) (e .1) codeword) (a .n))
+
+  pub check-met : Bytes codeword → (answer : Verdict) × CheckPost a codeword answer
+  check-met bytes =
+      ⊎-elim
+      (λ z.
+      let c = checked-exists (check-accepted a _ .0 z .valid) bytes in
+      (c .0, record { number = c .1 ∙ sym z; served = λ _. c .2; refused = λ ne. absurd (ne (c .1)) }))
+      (λ ne. (
+        Refused (checkGate a (length codeword)),
+        record { number = refl; served = λ z. absurd (ne z); refused = λ _. refl },
+      ))
+      (eq-or (checkGate a (length codeword)) 0)
+
+  checked-once : Valid a → (node node′ : ℕ) → Checked a codeword node → Checked a codeword node′ → node ≡ node′
+  checked-once ok node node′ c c′ = go node node′ refl refl
+    where
+      one : (i p : ℕ) → block a (c .message) (c .slack) i p ≡ block a (c′ .message) (c′ .slack) i p
+      one =
+          pair-blocks a ok (upTo (working a)) (first-reads a ok) (c .message) (c′ .message) (c .slack) (c′ .slack) codeword (c .gives) (c′ .gives)
+
+      here : (i : ℕ) → Same a (c′ .message) (c′ .slack) codeword i → Same a (c .message) (c .slack) codeword i
+      here i h p hp = one (suc i) p ∙ h p hp
+
+      there : (i : ℕ) → Same a (c .message) (c .slack) codeword i → Same a (c′ .message) (c′ .slack) codeword i
+      there i h p hp = sym (one (suc i) p) ∙ h p hp
+
+      go : (m m′ : ℕ) → node ≡ m → node′ ≡ m′ → node ≡ node′
+      go zero zero z z′ = z ∙ sym z′
+      go zero (suc j) z z′ = let l = c′ .lowest j z′ in absurd (l .1 (there j (c .sound z j (l .0))))
+      go (suc j) zero z z′ = let l = c .lowest j z in absurd (l .1 (here j (c′ .sound z′ j (l .0))))
+      go (suc i) (suc j) z z′ =
+          let l = c .lowest i z in
+          let l′ = c′ .lowest j z′ in
+          ⊎-elim (λ h. absurd (l .1 (here i (l′ .2 i h))))
+          (λ h. ⊎-elim (λ h′. absurd (l′ .1 (there j (l .2 j h′)))) (λ h′. omega arith) (lt-or j i)) (lt-or i j)
+
+  pub check-once : (answer answer′ : Verdict) → CheckPost a codeword answer → CheckPost a codeword answer′
+      → (number answer ≡ number answer′) × (nodeNumber answer ≡ nodeNumber answer′)
+  check-once answer answer′ t t′ = (
+    t .number ∙ sym (t′ .number),
+    alike (λ z. checked-once (check-accepted a _ .0 z .valid) (nodeNumber answer) (nodeNumber answer′)) (λ e e′. e ∙ sym e′) t t′,
+  )
+
+-- ---- view: its number is the gate's by definition
+
+module _ (a : Params) (codeword : List ℕ) (i : ℕ) where
+  pub view-met : (part : List ℕ) × ViewPost a codeword i part
+  view-met =
+      ⊎-elim (λ z. (_, record { number = refl; served = λ _. refl; refused = λ ne. absurd (ne z) }))
+      (λ ne. ([], record { number = refl; served = λ z. absurd (ne z); refused = λ _. refl })) (eq-or (viewGate a (length codeword) i) 0)
+
+  pub view-once : (part part′ : List ℕ) → ViewPost a codeword i part → ViewPost a codeword i part′ → part ≡ part′
+  view-once part part′ = alike (λ z e e′. e ∙ sym e′) (λ e e′. e ∙ sym e′)

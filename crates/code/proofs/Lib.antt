@@ -1,0 +1,4 @@
+pub mod Pairs
+pub mod Additivity
+pub mod Theorems
+pub mod Determined

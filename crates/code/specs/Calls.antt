@@ -1,0 +1,151 @@
+-- "The calls" (document 01): for each, what its answer and every byte of its buffers are, served and refused. Results are said by their meaning, through
+-- the one pair with the given blocks; that there is exactly one is proved in proofs/. Assumes nothing.
+use mathlib.Core.Path.{_≡_}
+use mathlib.Core.Bool.{Bool, true, false, _||_}
+use mathlib.Core.List.{List, []}
+use Prim.Native.Nat.{ℕ, suc, _-_, _*_, _<_}
+use lib.Dec.{ltb}
+use lib.ListN.{length, take, drop}
+use Rattle.base.specs.Seq.{cell}
+use Rattle.field.specs.Field.{add}
+use Rattle.params.specs.Nodes.{has, count}
+use Rattle.params.specs.Params.{slackParts, working, reshaped}
+use Rattle.params.specs.Gates.{encodeGate, decodeGate, deltaGate, updateGate, repairGate, checkGate, viewGate, reconfigureGate}
+use Rattle.params.specs.declared.Params.{Params}
+use Rattle.params.specs.declared.Shape.{Shape}
+use Rattle.code.specs.Code.{Parts, block, Pair, Gives, upTo}
+use Rattle.code.specs.declared.Verdict.{Verdict}
+use Rattle.code.specs.declared.Verdict.the-variants.{Refused, Agrees, Differs}
+
+-- A call answers its gate's number; with 0 it is served, with any other it is refused.
+pub record Post (gate answer : ℕ) (Served Refused : Type 0) : Type 0 where
+  pub number : answer ≡ gate
+  pub served : answer ≡ 0 → Served
+  pub refused : (answer ≡ 0 → ⊥) → Refused
+
+-- ---- "Set-up: message and slack in, record written."
+
+pub record Encoded (a : Params) (x v new : List ℕ) : Type 0 where
+  pub length-is : length new ≡ a .n * a .b
+  pub holds : (j p : ℕ) → j < a .n → p < a .b → cell (a .b) new j p ≡ block a x v (suc j) p
+
+abbrev pub EncodePost : Params → List ℕ → List ℕ → List ℕ → ℕ → List ℕ → Type 0
+EncodePost a x v old answer new = Post (encodeGate a (length x) (length v) (length old)) answer (Encoded a x v new) (new ≡ old)
+
+-- ---- "Reading: record and a choice R of r traps. Out: the message of the one (message, slack) pair that gives R's blocks. It is defined for whichever
+-- bytes R holds."
+
+pub record Decoded (a : Params) (codeword : List ℕ) (from : ℕ) (out : List ℕ) : Type 0 where
+  pub slack : List ℕ
+  pub gives : Gives a out slack (has from) codeword
+
+abbrev pub DecodePost : Params → List ℕ → ℕ → List ℕ → ℕ → List ℕ → Type 0
+DecodePost a codeword from old answer out =
+    Post (decodeGate a (length codeword) (length old) from) answer (Decoded a codeword from out) (out ≡ old)
+
+-- ---- "Difference: change bytes d (k·B) and a choice W of w traps. Out: w·B bytes, W's traps in rising order. They are the blocks of the one (d, slack)
+-- pair that gives 00 at every trap outside W."
+
+-- v is the slack with which d's blocks are 00 at every node of 1..n outside W
+pub record Vanishes (a : Params) (d : List ℕ) (to : ℕ) (v : List ℕ) : Type 0 where
+  pub slack : Parts (a .b) (slackParts a) v
+  pub zero : (j p : ℕ) → j < a .n → has to (suc j) ≡ false → p < a .b → block a d v (suc j) p ≡ 0
+
+-- the block of node suc j stands at its rank among W's nodes
+pub record Differences (a : Params) (d : List ℕ) (to : ℕ) (out : List ℕ) : Type 0 where
+  pub slack : List ℕ
+  pub vanishes : Vanishes a d to slack
+  pub length-is : length out ≡ a .w * a .b
+  pub holds : (j p : ℕ) → j < a .n → has to (suc j) ≡ true → p < a .b → cell (a .b) out (count (has to) j) p ≡ block a d slack (suc j) p
+
+abbrev pub DeltaPost : Params → List ℕ → ℕ → List ℕ → ℕ → List ℕ → Type 0
+DeltaPost a d to old answer out = Post (deltaGate a (length d) (length old) to) answer (Differences a d to out) (out ≡ old)
+
+-- ---- "Change: adds those differences to W's blocks; every other byte stays. The record's bytes have no part in the difference."
+
+pub record Updated (a : Params) (old d : List ℕ) (to : ℕ) (new : List ℕ) : Type 0 where
+  pub slack : List ℕ
+  pub vanishes : Vanishes a d to slack
+  pub length-is : length new ≡ a .n * a .b
+  pub added : (j p : ℕ) → j < a .n → has to (suc j) ≡ true → p < a .b
+      → cell (a .b) new j p ≡ add (cell (a .b) old j p) (block a d slack (suc j) p)
+  pub kept : (j p : ℕ) → j < a .n → has to (suc j) ≡ false → p < a .b → cell (a .b) new j p ≡ cell (a .b) old j p
+
+abbrev pub UpdatePost : Params → List ℕ → ℕ → List ℕ → ℕ → List ℕ → Type 0
+UpdatePost a d to old answer new = Post (updateGate a (length old) (length d) to) answer (Updated a old d to new) (new ≡ old)
+
+-- ---- "Rebuild: R and a lost choice L. L's blocks become those of R's pair. L may be empty, and then nothing is written."
+
+pub record Repaired (a : Params) (old : List ℕ) (from lost : ℕ) (new : List ℕ) : Type 0 where
+  pub message : List ℕ
+  pub slack : List ℕ
+  pub gives : Gives a message slack (has from) old
+  pub length-is : length new ≡ a .n * a .b
+  pub rebuilt : (j p : ℕ) → j < a .n → has lost (suc j) ≡ true → p < a .b → cell (a .b) new j p ≡ block a message slack (suc j) p
+  pub kept : (j p : ℕ) → j < a .n → has lost (suc j) ≡ false → p < a .b → cell (a .b) new j p ≡ cell (a .b) old j p
+
+abbrev pub RepairPost : Params → ℕ → ℕ → List ℕ → ℕ → List ℕ → Type 0
+RepairPost a from lost old answer new =
+    Post (repairGate a (length old) from lost) answer (Repaired a old from lost new) (new ≡ old)
+
+-- ---- "Rearrangement: from k, r, w, n to k', r', w', n', same B, with R of r old traps, W' of w' of the new n', and a new message of k'·B bytes. The old
+-- record is only read; the new one has its own buffer."
+
+-- "Traps in W' get the new pair's blocks. Traps above n get theirs too. Any other trap's block is copied from the old record."
+abbrev pub writes : Params → ℕ → ℕ → Bool
+writes a to i = has to i || ltb (a .n) i
+
+-- "R's old pair gives a value z_i for each trap i up to n'. The new pair has the new message and agrees with z_i at every trap of 1..n' outside W'."
+pub record Reconfigured (a : Params) (t : Shape) (old : List ℕ) (from to : ℕ) (x new : List ℕ) : Type 0 where
+  pub oldMessage : List ℕ
+  pub oldSlack : List ℕ
+  pub gives : Gives a oldMessage oldSlack (has from) old
+  pub slack : List ℕ
+  pub pair : Pair (reshaped a t) x slack
+  pub agrees : (j p : ℕ) → j < t .n → has to (suc j) ≡ false → p < a .b
+      → block (reshaped a t) x slack (suc j) p ≡ block a oldMessage oldSlack (suc j) p
+  pub length-is : length new ≡ t .n * a .b
+  pub written : (j p : ℕ) → j < t .n → writes a to (suc j) ≡ true → p < a .b → cell (a .b) new j p ≡ block (reshaped a t) x slack (suc j) p
+  pub copied : (j p : ℕ) → j < t .n → writes a to (suc j) ≡ false → p < a .b → cell (a .b) new j p ≡ cell (a .b) old j p
+
+abbrev pub ReconfigurePost : Params → Shape → List ℕ → ℕ → ℕ → List ℕ → List ℕ → ℕ → List ℕ → Type 0
+ReconfigurePost a t old from to x buffer answer new =
+    Post (reconfigureGate a t (length old) (length buffer) (length x) from to) answer (Reconfigured a t old from to x new) (new ≡ buffer)
+
+-- ---- "Check: takes the record. Besides its gate number it gives a trap number: 0 if all n blocks come from the pair of traps 1..r, else the lowest trap
+-- whose block differs from that pair's."
+
+-- The verdict's number in document 01 ..
+abbrev pub number : Verdict → ℕ
+number (Refused q) = q
+number Agrees = 0
+number (Differs i) = 0
+
+-- .. and its trap number, which a refused check does not give: 0 there.
+abbrev pub nodeNumber : Verdict → ℕ
+nodeNumber (Refused q) = 0
+nodeNumber Agrees = 0
+nodeNumber (Differs i) = i .0
+
+-- node suc j's block is the pair's
+abbrev pub Same : Params → List ℕ → List ℕ → List ℕ → ℕ → Type 0
+Same a x v codeword j = (p : ℕ) → p < a .b → block a x v (suc j) p ≡ cell (a .b) codeword j p
+
+pub record Checked (a : Params) (codeword : List ℕ) (node : ℕ) : Type 0 where
+  pub message : List ℕ
+  pub slack : List ℕ
+  pub gives : Gives a message slack (upTo (working a)) codeword
+  pub sound : node ≡ 0 → (j : ℕ) → j < a .n → Same a message slack codeword j
+  pub lowest : (j : ℕ) → node ≡ suc j
+      → (j < a .n) × (Same a message slack codeword j → ⊥) × ((i : ℕ) → i < j → Same a message slack codeword i)
+
+abbrev pub CheckPost : Params → List ℕ → Verdict → Type 0
+CheckPost a codeword answer =
+    Post (checkGate a (length codeword)) (number answer) (Checked a codeword (nodeNumber answer)) (nodeNumber answer ≡ 0)
+
+-- ---- "View: the part of the record that is trap i's block, returned as a part of the lent record. A refused view is a part of length 0. The view returns
+-- the part alone; a second call on the same arguments gives its gate number."
+
+abbrev pub ViewPost : Params → List ℕ → ℕ → List ℕ → Type 0
+ViewPost a codeword i part =
+    Post (viewGate a (length codeword) i) (viewGate a (length codeword) i) (part ≡ take (a .b) (drop ((i - 1) * a .b) codeword)) (part ≡ [])
