@@ -1,0 +1,4 @@
+pub mod Kernels
+pub mod Coefficients
+pub mod Reading
+pub mod Encoding
