@@ -6,3 +6,10 @@ mod ReadBack
 mod Posts
 mod DecodeCore
 mod EncodeCore
+mod Spread
+mod Placed
+mod Differences
+mod NodeBlock
+mod Comparing
+mod Rebuilding
+mod Viewed

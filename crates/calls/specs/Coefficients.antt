@@ -1,12 +1,16 @@
 -- What the private functions on coefficients compute. No statement about a call rests on these names. Assumes nothing.
 use mathlib.Core.Path.{_≡_}
+use mathlib.Core.Bool.{true, not}
 use mathlib.Core.List.{List}
 use Prim.Native.Nat.{ℕ, suc, _+_, _-_, _*_, _≤_, _<_}
 use lib.ListN.{length, getD}
 use Rattle.base.specs.Seq.{tabulate, cell, blocks}
-use Rattle.field.specs.Field.{mul, pow}
+use Rattle.field.specs.Field.{IsByte, mul, pow}
 use Rattle.field.specs.FiniteSum.{sum}
-use Rattle.interpolation.specs.Polynomial.{Points}
+use Rattle.interpolation.specs.Polynomial.{evaluate, Points}
+use Rattle.params.specs.Nodes.{has, size, within, nodes}
+use Rattle.params.specs.Valid.{Valid}
+use Rattle.params.specs.declared.Params.{Params}
 use Rattle.code.specs.Code.{point}
 
 -- c^(e+1), c^(e+2), .., c^(e+m)
@@ -35,3 +39,45 @@ pub record Solvable (nodes out : List ℕ) : Type 0 where
 -- the powers e + 1, .., e + m of c times a square matrix of side m, whose rows stand at the given places
 unfoldable pub nodeRow : ℕ → ℕ → ℕ → List ℕ → List ℕ → List ℕ
 nodeRow c e m inverse places = tabulate m (λ i. sum m (λ j. mul (pow c (e + suc j)) (cell m inverse (getD places j 0) i)))
+
+-- ---- the rows that spread a change
+
+-- k leading coefficients x and the remaining v, as many as there are nodes outside, make a polynomial that is 00 at these nodes
+pub record Clears (k : ℕ) (outside : List ℕ) (x v : ℕ → ℕ) : Type 0 where
+  pub bytes : (t : ℕ) → IsByte (v t)
+  pub zero : (i : ℕ) → i < length outside → evaluate k (length outside) x v (point (getD outside i 0)) ≡ 0
+
+-- the rows take x to v
+pub record Slackens (k : ℕ) (outside rows : List ℕ) : Type 0 where
+  pub takes : (x v : ℕ → ℕ) → Clears k outside x v → (t : ℕ) → t < length outside → sum k (λ j. mul (cell k rows t j) (x j)) ≡ v t
+
+-- the rows take x to the polynomial's values at the nodes of a list
+pub record Spreads (k : ℕ) (outside nodes rows : List ℕ) : Type 0 where
+  pub takes : (x v : ℕ → ℕ) → Clears k outside x v → (i : ℕ) → i < length nodes
+      → sum k (λ j. mul (cell k rows i j) (x j)) ≡ evaluate k (length outside) x v (point (getD nodes i 0))
+
+-- what such rows ask
+pub record Slackable (k : ℕ) (outside out : List ℕ) : Type 0 where
+  pub k-low : 0 < k
+  pub k-high : k ≤ 32
+  pub some : 0 < length outside
+  pub most : length outside ≤ 32
+  pub points : Points (pointsOf outside)
+  pub room : length out ≡ length outside * k
+
+pub record Spreadable (k : ℕ) (outside nodes rows : List ℕ) : Type 0 where
+  pub k-low : 0 < k
+  pub k-high : k ≤ 32
+  pub most : length outside ≤ 32
+  pub points : Points (pointsOf outside)
+  pub nodes-most : length nodes ≤ 32
+  pub room : length rows ≡ length nodes * k
+
+-- a set that valid parameters let a change write
+pub record Writable (a : Params) (to : ℕ) : Type 0 where
+  pub valid : Valid a
+  pub to-within : within (a .n) to ≡ true
+  pub to-size : size to ≡ a .w
+
+abbrev pub SpreadsOver : Params → ℕ → List ℕ → Type 0
+SpreadsOver a to rows = Spreads (a .k) (nodes (λ i. not (has to i)) (a .n)) (nodes (has to) (a .n)) rows

@@ -2,3 +2,5 @@ pub mod Kernels
 pub mod Coefficients
 pub mod Reading
 pub mod Encoding
+pub mod Checking
+pub mod Repairing

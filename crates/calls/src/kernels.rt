@@ -5,7 +5,7 @@ ghost use Prim.Native.Nat.{ℕ, _*_, _≤_, _<_};
 ghost use lib.ListN.{length, getD, replicate};
 ghost use Rattle.field.specs.Field.{add};
 ghost use Rattle.base.specs.Seq.{tabulate};
-ghost use Rattle.calls.specs.Kernels.{plusMultiple, plus, combined, combinedRows, Inside};
+ghost use Rattle.calls.specs.Kernels.{plusMultiple, plus, combined, combinedRows, Inside, Compared};
 
 // dst += c·src
 pub(crate) fn add_multiple(dst: &mut [u8], src: &[u8], c: u8)
@@ -43,6 +43,35 @@ pub(crate) fn clear(dst: &mut [u8])
         dst[p] = 0;
         p += 1;
     }
+}
+
+// dst := src
+pub(crate) fn copy_block(dst: &mut [u8], src: &[u8])
+    requires { ⌜ length (now dst) ≡ length (now src) ⌝ }
+    ensures { λ _. ⌜ now (dst .exit) ≡ now (src .entry) ⌝ }
+{
+    let count = dst.len();
+    let mut p = 0;
+    while p < count {
+        dst[p] = src[p];
+        p += 1;
+    }
+}
+
+// Whether two blocks differ.
+pub(crate) fn differs(x: &[u8], y: &[u8]) -> bool
+    requires { ⌜ length (now x) ≡ length (now y) ⌝ }
+    ensures { λ r. ⌜ Compared (now (x .entry)) (now (y .entry)) r ⌝ }
+{
+    let count = x.len();
+    let mut p = 0;
+    while p < count {
+        if x[p] != y[p] {
+            return true;
+        }
+        p += 1;
+    }
+    false
 }
 
 // dst += the sum of the blocks of src at the given places, each times its coefficient. Blocks are as long as dst.
