@@ -13,3 +13,6 @@ mod NodeBlock
 mod Comparing
 mod Rebuilding
 mod Viewed
+mod Switched
+mod Rearranged
+mod NewBlocks

@@ -4,3 +4,4 @@ pub mod Reading
 pub mod Encoding
 pub mod Checking
 pub mod Repairing
+pub mod Reconfiguring
