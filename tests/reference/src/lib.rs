@@ -1,0 +1,19 @@
+//! A reference of document 01, written from that document alone.
+//!
+//! It shares no method with an implementation by tables and elimination:
+//! products are made by shift and reduce, the pair is found by Newton's
+//! interpolation, and the matrix inverse works on columns.
+
+pub mod blocks;
+pub mod calls;
+pub mod field;
+pub mod gate;
+pub mod matrix;
+pub mod pair;
+pub mod polynomial;
+pub mod season;
+
+pub use calls::{change, check, difference, reading, rearrangement, rebuild, setup, view};
+pub use gate::{Arrangement, Shape};
+pub use matrix::{inverse, is_sum_of_others};
+pub use season::season;
