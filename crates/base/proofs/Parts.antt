@@ -1,17 +1,16 @@
 -- A part of a list that was lent and came back changed, told entry by entry, and a loop that writes a list block by block. Assumes nothing.
-use mathlib.Core.Path.{_≡_, refl, sym, ap, ap₂, _∙_, subst}
+use mathlib.Core.Path.{_≡_, refl, sym, ap, _∙_}
 use mathlib.Core.List.{List, _++_}
-use mathlib.Core.Logic.{_⊎_, inl, inr, ⊎-elim}
+use mathlib.Core.Logic.{⊎-elim}
 use Prim.Native.Nat.{ℕ, suc, _+_, _-_, _*_, _≤_, _<_}
 use native.Mathlib.Nat.{suc-mul, mul-le-mul-right}
-use native.Mathlib.Numerals.{add-one}
 use native.Mathlib.Omega.{arith}
-use borrow.Rule.Slice.PartMut.{putMid, midOf, postOf, same-len-mid}
+use borrow.Rule.Slice.PartMut.{putMid, postOf, same-len-mid}
 use lib.ListN.{length, getD, take, drop, length-drop, List·getD-append}
 use lib.Seq.{length-take-le, getD-take, getD-drop, getD-append-add}
 use Rattle.base.specs.Seq.{cell, blocks}
 use Rattle.base.proofs.Cases.{lt-or, eq-or}
-use Rattle.base.proofs.Seq.{cell-lt, cell-blocks, length-blocks, cells-ext}
+use Rattle.base.proofs.Seq.{cell-blocks, length-blocks, cells-ext}
 
 module _ (a k : ℕ) (xs ys : List ℕ) (fits : a + k ≤ length xs) (full : length ys ≡ k) where
   front : length (take a xs) ≡ a

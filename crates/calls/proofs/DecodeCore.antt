@@ -1,17 +1,16 @@
 -- The combinations by the inverse's first rows are the message of the one pair that gives the blocks read. Assumes nothing.
-use mathlib.Core.Path.{_≡_, refl, sym, ap, ap₂, _∙_, subst}
+use mathlib.Core.Path.{_≡_, sym, ap, _∙_, subst}
 use mathlib.Core.Bool.{true}
 use mathlib.Core.List.{List}
-use Prim.Native.Nat.{ℕ, suc, _+_, _-_, _*_, _^_, _≤_, _<_}
+use Prim.Native.Nat.{ℕ, suc, _-_, _*_, _^_, _≤_, _<_}
 use native.Mathlib.Nat.{mul-le-mul, mul-le-mul-right}
 use native.Mathlib.Omega.{arith}
 use lib.ListN.{length, getD}
-use Rattle.base.specs.Seq.{cell}
 use Rattle.base.proofs.Seq.{cell-blocks, length-blocks, cells-ext}
 use Rattle.field.specs.Field.{Bytes}
 use Rattle.params.specs.Nodes.{has, size, within}
 use Rattle.params.specs.Params.{working}
-use Rattle.params.specs.Valid.{Valid, DecodeAccepted}
+use Rattle.params.specs.Valid.{DecodeAccepted}
 use Rattle.params.specs.declared.Params.{Params}
 use Rattle.params.proofs.Sets.{entry, length-nodes, within-has}
 use Rattle.params.proofs.Valid.{working-is}
@@ -19,7 +18,7 @@ use Rattle.code.specs.Code.{Gives}
 use Rattle.code.specs.Calls.{Decoded}
 use Rattle.code.proofs.Pairs.{from-reads, pair-exists}
 use Rattle.calls.specs.Kernels.{Inside, combinedRows}
-use Rattle.calls.specs.Reading.{listed, Prepared}
+use Rattle.calls.specs.Reading.{Prepared}
 use Rattle.calls.proofs.Listed.{length-listed, size-most}
 use Rattle.calls.proofs.ReadBack.{part-read}
 

@@ -28,7 +28,8 @@ use Rattle.code.specs.Calls.{Vanishes, Differences, Updated}
 use Rattle.code.proofs.Pairs.{written-leaves, spread-exists}
 use Rattle.calls.specs.Kernels.{combinedRows, Placed, plusCombined, Addable}
 use Rattle.calls.specs.Coefficients.{pointsOf, Clears, Spreads, Spreadable, SpreadsOver, Writable}
-use Rattle.calls.proofs.Spread.{first, combinedRows-at, length-combinedRows}
+use Rattle.calls.specs.Coefficients.{inOrder}
+use Rattle.calls.proofs.Spread.{combinedRows-at, length-combinedRows}
 
 -- ---- the nodes of W and those outside it, as the code lists them
 
@@ -164,15 +165,15 @@ module _ (a : Params) (to : ℕ) (ok : Writable a to) (rows d v : List ℕ) (spr
       ∙ ap₂ (λ (m c : ℕ). evaluate (a .k) m (λ j. cell (a .b) d j p) (λ j. cell (a .b) v j p) (point c)) (length-outside a to ok)
       (node-at-rank (has to) (a .n) j hj e)
 
-pub differences-made : (a : Params) (to : ℕ) (rows d places out : List ℕ) → Writable a to → SpreadsOver a to rows → places ≡ first
+pub differences-made : (a : Params) (to : ℕ) (rows d places out : List ℕ) → Writable a to → SpreadsOver a to rows → places ≡ inOrder
     → out ≡ combinedRows (a .w) (a .b) (a .k) d places rows → Differences a d to out
 differences-made a to rows d places out ok spreads hf made =
-    let e : out ≡ combinedRows (a .w) (a .b) (a .k) d first rows = made ∙ ap (λ (q : List ℕ). combinedRows (a .w) (a .b) (a .k) d q rows) hf in
+    let e : out ≡ combinedRows (a .w) (a .b) (a .k) d inOrder rows = made ∙ ap (λ (q : List ℕ). combinedRows (a .w) (a .b) (a .k) d q rows) hf in
     let s = spread-exists a to (ok .valid) (ok .to-within) (ok .to-size) d in
     record {
       slack = s .0;
       vanishes = s .1;
-      length-is = ap length e ∙ length-combinedRows (a .w) (a .b) (a .k) d first rows;
+      length-is = ap length e ∙ length-combinedRows (a .w) (a .b) (a .k) d inOrder rows;
       holds = λ j p hj h hp.
           ap (λ (l : List ℕ). cell (a .b) l (count (has to) j) p) e
           ∙ combinedRows-at (a .w) (a .b) (a .k) d rows (count (has to) j) p (k-most a to ok) (rank-below a to ok rows d (s .0) spreads (s .1) j hj h) hp

@@ -1,8 +1,7 @@
 -- The block of one node as the code makes it, and that it is document 01's: the powers of the node's point are the coefficients of the parts. Assumes nothing.
-use mathlib.Core.Path.{_≡_, refl, sym, ap, ap₂, _∙_, subst, subst⁻¹}
+use mathlib.Core.Path.{_≡_, ap, ap₂, _∙_}
 use mathlib.Core.List.{List}
-use Prim.Native.Nat.{ℕ, suc, _+_, _-_, _*_, _≤_, _<_}
-use native.Mathlib.Nat.{mul-le-mul-right}
+use Prim.Native.Nat.{ℕ, suc, _+_, _-_, _≤_, _<_}
 use native.Mathlib.Omega.{arith}
 use lib.ListN.{length, getD, take, drop, length-drop}
 use lib.Seq.{length-take-le, getD-take, getD-drop}
@@ -14,25 +13,11 @@ use Rattle.field.proofs.Multiplication.{mul-comm}
 use Rattle.field.proofs.FiniteSum.{sum-ext}
 use Rattle.interpolation.specs.Polynomial.{evaluate}
 use Rattle.code.specs.Code.{point}
-use Rattle.calls.specs.Kernels.{Inside, combined}
-use Rattle.calls.specs.Coefficients.{powersFrom}
+use Rattle.calls.specs.Kernels.{combined}
+use Rattle.calls.specs.Coefficients.{powersFrom, inOrder}
 use Rattle.calls.specs.Encoding.{BlockOf}
+use Rattle.calls.proofs.InOrder.{in-order}
 use Rattle.calls.proofs.PowerRows.{length-powersFrom, powersFrom-at}
-
--- the places 0, 1, 2, ..
-abbrev pub order : List ℕ
-order = tabulate 32 (λ j. j)
-
--- count parts are the blocks at the first places
-pub inside-first : (b count : ℕ) (src places : List ℕ) → places ≡ order → count ≤ 32 → length src ≡ count * b → Inside b src places count
-inside-first b count src places e h full =
-    subst⁻¹ (λ (l : List ℕ). Inside b src l count) e
-    (record {
-      enough = omega (arith, length-tabulate 32 (λ j. j));
-      block = λ j hj.
-          subst⁻¹ (λ (k : ℕ). suc k * b ≤ length src) (getD-tabulate 32 (λ j. j) j (omega arith))
-          (subst⁻¹ (λ (m : ℕ). suc j * b ≤ m) full (mul-le-mul-right b hj));
-    })
 
 pub block-of : (node k q : ℕ) (message slack places powers old mid new : List ℕ) → powers ≡ powersFrom (point node) 0 q
     → mid ≡ tabulate (length old) (combined (length old) message places (take k powers)) → length new ≡ length mid
@@ -52,14 +37,14 @@ block-of node k q message slack places powers old mid new e m h s =
 
 -- a combination by powers from e + 1 on is the polynomial's part from there on
 sum-of : (b c e m : ℕ) (src coeffs : List ℕ) (p : ℕ) → m ≤ 32 → length coeffs ≡ m → ((j : ℕ) → j < m → getD coeffs j 0 ≡ pow c (e + suc j))
-    → combined b src order coeffs p ≡ sum m (λ j. mul (cell b src j p) (pow c (e + suc j)))
+    → combined b src inOrder coeffs p ≡ sum m (λ j. mul (cell b src j p) (pow c (e + suc j)))
 unfolding combined
 sum-of b c e m src coeffs p h n at =
-    ap (λ (k : ℕ). sum k (λ j. mul (getD coeffs j 0) (cell b src (getD order j 0) p))) n
+    ap (λ (k : ℕ). sum k (λ j. mul (getD coeffs j 0) (cell b src (getD inOrder j 0) p))) n
     ∙ sum-ext m _ _
-    (λ j hj. ap₂ (λ (x k : ℕ). mul x (cell b src k p)) (at j hj) (getD-tabulate 32 (λ j. j) j (omega arith)) ∙ mul-comm (pow c (e + suc j)) (cell b src j p))
+    (λ j hj. ap₂ (λ (x k : ℕ). mul x (cell b src k p)) (at j hj) (in-order j (omega arith)) ∙ mul-comm (pow c (e + suc j)) (cell b src j p))
 
-pub node-block : (b k l node : ℕ) (message slack places old new : List ℕ) → places ≡ order → k + l ≤ 32 → length old ≡ b
+pub node-block : (b k l node : ℕ) (message slack places old new : List ℕ) → places ≡ inOrder → k + l ≤ 32 → length old ≡ b
     → BlockOf node k (k + l) message slack places old new
     → (length new ≡ b) × ((p : ℕ) → p < b → getD new p 0 ≡ evaluate k l (λ j. cell b message j p) (λ j. cell b slack j p) (point node))
 unfolding evaluate

@@ -1,4 +1,5 @@
 mod Accumulated
+mod InOrder
 mod PowerRows
 mod Solve
 mod Listed

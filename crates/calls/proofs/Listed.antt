@@ -1,12 +1,11 @@
 -- The nodes of a set as the code lists them: how many, which points they have, and what a list of 32 entries begins with. Assumes nothing.
-use mathlib.Core.Path.{_≡_, refl, sym, ap, ap₂, _∙_, subst}
+use mathlib.Core.Path.{_≡_, sym, ap, ap₂, _∙_, subst}
 use mathlib.Core.List.{List, _++_}
-use Prim.Native.Nat.{ℕ, suc, _+_, _-_, _*_, _^_, _≤_, _<_}
+use Prim.Native.Nat.{ℕ, _-_, _*_, _^_, _≤_, _<_}
 use native.Mathlib.Omega.{arith}
 use lib.Count.{ones-le}
 use lib.ListN.{length, getD, drop, take, replicate, length-append, length-replicate}
-use lib.Seq.{take-at, length-take-le, getD-take}
-use Rattle.field.specs.Field.{IsByte}
+use lib.Seq.{take-at, getD-take}
 use Rattle.interpolation.specs.Polynomial.{Points}
 use Rattle.interpolation.proofs.PointLists.{points-of}
 use Rattle.matrix.specs.Matrix.{IsInverse}

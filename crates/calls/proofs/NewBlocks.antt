@@ -4,7 +4,6 @@ use mathlib.Core.Bool.{Bool, true, false, _||_, true≢false}
 use mathlib.Core.List.{List, [], _++_}
 use mathlib.Core.Logic.{⊎-elim}
 use Prim.Native.Nat.{ℕ, suc, _+_, _-_, _*_, _^_, _≤_, _<_}
-use native.Mathlib.Nat.{mul-le-mul-right}
 use native.Mathlib.Omega.{arith}
 use borrow.Author.Tests.{lt-ltb, le-ltb, ltb-false}
 use borrow.Rule.Slice.PartMut.{putMid}
@@ -25,21 +24,14 @@ use Rattle.matrix.specs.Matrix.{apply, IsInverse}
 use Rattle.params.specs.Nodes.{has, size}
 use Rattle.code.specs.Code.{point}
 use Rattle.calls.specs.Kernels.{combined, Inside}
-use Rattle.calls.specs.Coefficients.{powersFrom, powerRows, nodeRow}
-use Rattle.calls.specs.Reconfiguring.{inOrder, ShareRow, ReadTable, Room, newCoeff, newByte, nodeByte}
+use Rattle.calls.specs.Coefficients.{powersFrom, powerRows, nodeRow, inOrder}
+use Rattle.calls.specs.Reconfiguring.{ShareRow, ReadTable, Room, newCoeff, newByte, nodeByte}
 use Rattle.calls.specs.Reading.{listed, Prepared}
 use Rattle.calls.specs.declared.reconfiguring.Sizes.{Sizes}
 use Rattle.calls.proofs.Listed.{Lists, length-listed, list-front}
-use Rattle.calls.proofs.PowerRows.{length-powersFrom, powersFrom-at}
+use Rattle.calls.proofs.PowerRows.{length-powersFrom, powersFrom-at, length-nodeRow}
 use Rattle.calls.proofs.Solve.{area-fits, front-back}
-use Rattle.calls.proofs.Switched.{in-order}
-
-pub length-nodeRow : (c e m : ℕ) (inverse places : List ℕ) → length (nodeRow c e m inverse places) ≡ m
-unfolding nodeRow
-length-nodeRow c e m inverse places = length-tabulate m _
-
-pub length-in-order : length inOrder ≡ 32
-length-in-order = length-tabulate 32 (λ j. j)
+use Rattle.calls.proofs.InOrder.{in-order, inside-first}
 
 -- a row that was lent its m entries, and is lent again
 pub row-lent : (c e n m : ℕ) (inverse order row again : List ℕ) → again ≡ row → row ≡ nodeRow c e n inverse order → n ≡ m → order ≡ inOrder
@@ -48,21 +40,10 @@ row-lent c e n m inverse order row again ea er en eo = ea ∙ er ∙ ap₂ (λ (
 
 -- the first rows of a square, and of the table
 pub square-inside : (m : ℕ) (inverse order : List ℕ) → m ≤ 32 → length inverse ≡ 1024 → order ≡ inOrder → Inside m inverse order m
-square-inside m inverse order h room e =
-    record {
-      enough = omega (arith, ap length e, length-in-order);
-      block = λ j hj.
-          subst (λ (k : ℕ). suc k * m ≤ length inverse) (sym (ap (λ (l : List ℕ). getD l j 0) e ∙ in-order j (omega arith)))
-          (omega (arith, mul-le-mul-right m hj, area-fits m h));
-    }
+square-inside m inverse order h room e = inside-first m m inverse order e h (omega (arith, area-fits m h))
 
 pub table-inside : (l : ℕ) (table order : List ℕ) → l ≤ 32 → length table ≡ 2048 → order ≡ inOrder → Inside 64 table order l
-table-inside l table order h full e =
-    record {
-      enough = omega (arith, ap length e, length-in-order);
-      block = λ j hj.
-          subst (λ (k : ℕ). suc k * 64 ≤ length table) (sym (ap (λ (m : List ℕ). getD m j 0) e ∙ in-order j (omega arith))) (omega arith);
-    }
+table-inside l table order h full e = inside-first 64 l table order e h (omega arith)
 
 -- a front part that came back, in a list of n entries
 pub length-front : (k n : ℕ) (front old : List ℕ) → length front ≡ k → length old ≡ n → k ≤ n → length (front ++ drop k old) ≡ n
@@ -217,13 +198,7 @@ table-read from rest k m q l places inverse table word e hm hq ready rows =
 -- ---- a new block
 
 pub message-inside : (b k : ℕ) (message order : List ℕ) → k ≤ 32 → length message ≡ k * b → order ≡ inOrder → Inside b message order k
-message-inside b k message order h full e =
-    record {
-      enough = omega (arith, ap length e, length-in-order);
-      block = λ j hj.
-          subst (λ (m : ℕ). suc m * b ≤ length message) (sym (ap (λ (l : List ℕ). getD l j 0) e ∙ in-order j (omega arith)))
-          (subst (λ (m : ℕ). suc j * b ≤ m) (sym full) (mul-le-mul-right b hj));
-    }
+message-inside b k message order h full e = inside-first b k message order e h (omega arith)
 
 -- the two halves of the coefficients, as the code lends them
 abbrev pub readHalf : ℕ → List ℕ → List ℕ

@@ -3,11 +3,10 @@ use mathlib.Core.Path.{_≡_, sym, ap, ap₂, _∙_, subst⁻¹, subst₂}
 use mathlib.Core.Bool.{true}
 use mathlib.Core.List.{List}
 use Prim.Native.Nat.{ℕ, suc, _-_, _*_, _^_, _≤_, _<_}
-use native.Mathlib.Nat.{le-trans, mul-le-mul-right}
+use native.Mathlib.Nat.{mul-le-mul-right}
 use native.Mathlib.Omega.{arith}
 use lib.ListN.{length, getD}
 use Rattle.base.specs.Seq.{tabulate, cell}
-use Rattle.base.proofs.Seq.{length-tabulate, getD-tabulate}
 use Rattle.field.specs.Field.{Bytes, mul}
 use Rattle.field.specs.FiniteSum.{sum}
 use Rattle.params.specs.Nodes.{has, size}
@@ -15,47 +14,32 @@ use Rattle.params.specs.Params.{working}
 use Rattle.params.specs.declared.Params.{Params}
 use Rattle.params.proofs.Sets.{entry, length-nodes}
 use Rattle.code.specs.Code.{point, block, Gives}
-use Rattle.calls.specs.Kernels.{combined, Inside}
-use Rattle.calls.specs.Coefficients.{nodeRow}
+use Rattle.calls.specs.Kernels.{combined}
+use Rattle.calls.specs.Coefficients.{nodeRow, inOrder}
+use Rattle.calls.proofs.InOrder.{in-order}
+use Rattle.calls.proofs.PowerRows.{length-nodeRow}
 use Rattle.calls.specs.Reading.{Prepared, nodeBlock, Readable}
 use Rattle.calls.proofs.Solve.{area-fits}
 use Rattle.calls.proofs.Listed.{length-listed, size-most}
 use Rattle.calls.proofs.ReadBack.{node-read}
 
-order-at : (j : ℕ) → j < 32 → getD (tabulate 32 (λ i. i)) j 0 ≡ j
-order-at j h = getD-tabulate 32 (λ i. i) j h
-
-length-nodeRow : (c e m : ℕ) (inverse order : List ℕ) → length (nodeRow c e m inverse order) ≡ m
-unfolding nodeRow
-length-nodeRow c e m inverse order = length-tabulate m _
-
 -- ---- one block
-
--- the inverse has the rows that a node's row is made of
-pub row-inside : (q : ℕ) (inverse order : List ℕ) → order ≡ tabulate 32 (λ i. i) → q ≤ 32 → q * q ≤ length inverse → Inside q inverse order q
-row-inside q inverse order e h side =
-    record {
-      enough = omega (arith, ap length e ∙ length-tabulate 32 (λ i. i));
-      block = λ j hj.
-          subst⁻¹ (λ (k : ℕ). suc k * q ≤ length inverse) (ap (λ (l : List ℕ). getD l j 0) e ∙ order-at j (omega arith))
-          (le-trans (mul-le-mul-right q hj) side);
-    }
 
 -- a row, once it is filled in
 pub row-length : (c q : ℕ) (inverse order row : List ℕ) → row ≡ nodeRow c 0 q inverse order → length row ≡ q
 row-length c q inverse order row r = ap length r ∙ length-nodeRow c 0 q inverse order
 
 -- the combination by a node's row
-pub block-found : (b q i c : ℕ) (codeword places inverse order row new : List ℕ) → order ≡ tabulate 32 (λ j. j) → c ≡ point i
+pub block-found : (b q i c : ℕ) (codeword places inverse order row new : List ℕ) → order ≡ inOrder → c ≡ point i
     → row ≡ nodeRow c 0 q inverse order → new ≡ tabulate b (combined b codeword places row)
     → new ≡ tabulate b (nodeBlock b q codeword places inverse i)
 unfolding combined nodeBlock
 block-found b q i c codeword places inverse order row new e h r n =
-    let whole : row ≡ nodeRow (point i) 0 q inverse (tabulate 32 (λ j. j)) =
+    let whole : row ≡ nodeRow (point i) 0 q inverse (inOrder) =
     r ∙ ap (λ (d : ℕ). nodeRow d 0 q inverse order) h ∙ ap (nodeRow (point i) 0 q inverse) e in
     n ∙ ap (λ (l : List ℕ). tabulate b (combined b codeword places l)) whole
-    ∙ ap (λ (m : ℕ). tabulate b (λ p. sum m (λ k. mul (getD (nodeRow (point i) 0 q inverse (tabulate 32 (λ j. j))) k 0) (cell b codeword (getD places k 0) p))))
-    (length-nodeRow (point i) 0 q inverse (tabulate 32 (λ j. j)))
+    ∙ ap (λ (m : ℕ). tabulate b (λ p. sum m (λ k. mul (getD (nodeRow (point i) 0 q inverse (inOrder)) k 0) (cell b codeword (getD places k 0) p))))
+    (length-nodeRow (point i) 0 q inverse (inOrder))
 
 -- the same, over lists of the lengths b and q
 pub found-by-lengths : (b q i : ℕ) (codeword places inverse lent row new : List ℕ) → length lent ≡ b → length row ≡ q
@@ -109,5 +93,5 @@ module _ (from : ℕ) (word : from < 2 ^ 32) (places inverse : List ℕ) (ready 
         → nodeBlock (a .b) (size from) codeword places inverse i p ≡ block a x v i p
     unfolding nodeBlock
     pair-block full x v gives bytes i p hp =
-        sym (node-read a from word most full places inverse ready x v codeword gives bytes p hp i (tabulate 32 (λ j. j))
-        (λ j hj. order-at j (omega (arith, size-most from word))))
+        sym (node-read a from word most full places inverse ready x v codeword gives bytes p hp i (inOrder)
+        (λ j hj. in-order j (omega (arith, size-most from word))))

@@ -14,7 +14,8 @@ use Rattle.field.specs.Field.{add, mul}
 use Rattle.field.proofs.FiniteSum.{sum-ext}
 use Rattle.calls.specs.Kernels.{plus, combined, Inside, Placed, plusCombined}
 use Rattle.calls.proofs.Accumulated.{rowAt, row-combined}
-use Rattle.calls.proofs.Spread.{first, first-inside}
+use Rattle.calls.specs.Coefficients.{inOrder}
+use Rattle.calls.proofs.InOrder.{inside-first}
 
 pub placed-none : (b : ℕ) (nodes : List ℕ) (f : ℕ → ℕ → ℕ) (l : List ℕ) → Placed b nodes f 0 l l
 placed-none b nodes f l = record { same = refl; done = λ i p h hp. absurd (omega arith); rest = λ j p h hp. refl }
@@ -77,14 +78,14 @@ module _
       }
 
 -- what the combination by row i asks, as the code lends the row
-pub row-inside : (b width n i : ℕ) (block src places coeffs : List ℕ) → places ≡ first → length block ≡ b → width ≤ 32 → width * b ≤ length src
+pub row-inside : (b width n i : ℕ) (block src places coeffs : List ℕ) → places ≡ inOrder → length block ≡ b → width ≤ 32 → width * b ≤ length src
     → i < n → n * width ≤ length coeffs → Inside (length block) src places (length (partOf width i coeffs))
 row-inside b width n i block src places coeffs hf hb h hs hi hc =
     subst₂ (λ (m w : ℕ). Inside m src places w) (sym hb) (sym (length-partOf width i coeffs (row-ends n i width (length coeffs) hi hc)))
-    (first-inside b width src places hf h hs)
+    (inside-first b width src places hf h hs)
 
 -- a block to which that combination is added
-pub added-part : (b width n i m : ℕ) (old nodes src places coeffs new lent block part : List ℕ) → places ≡ first → width ≤ 32 → i < n
+pub added-part : (b width n i m : ℕ) (old nodes src places coeffs new lent block part : List ℕ) → places ≡ inOrder → width ≤ 32 → i < n
     → n * width ≤ length coeffs → (m - 1) * b + b ≤ length new
     → ((p : ℕ) → p < b → cell b new (m - 1) p ≡ cell b old (getD nodes i 0 - 1) p) → length lent ≡ b
     → block ≡ tabulate (length lent) (combined (length lent) src places (partOf width i coeffs)) → part ≡ plus (partOf b (m - 1) new) block

@@ -1,5 +1,5 @@
 -- A call's post-condition, from the gate's number and what the served core did. Assumes nothing.
-use mathlib.Core.Path.{_≡_, refl, sym, _∙_}
+use mathlib.Core.Path.{_≡_, refl, sym}
 use Prim.Native.Nat.{ℕ}
 use Rattle.code.specs.Calls.{Post}
 

@@ -1,5 +1,5 @@
 -- Rows of powers: what a row holds, as the code lends it. Assumes nothing.
-use mathlib.Core.Path.{_≡_, sym, ap, ap₂, _∙_}
+use mathlib.Core.Path.{_≡_, ap, ap₂, _∙_}
 use mathlib.Core.List.{List}
 use Prim.Native.Nat.{ℕ, suc, _+_, _<_}
 use native.Mathlib.Omega.{arith}
@@ -27,6 +27,10 @@ row-powers c e m lent new h q = (
   ap length q ∙ length-tabulate (length lent) _ ∙ h,
   λ j hj. ap (λ (l : List ℕ). getD l j 0) q ∙ getD-tabulate (length lent) _ j (omega arith),
 )
+
+pub length-nodeRow : (c e m : ℕ) (inverse places : List ℕ) → length (nodeRow c e m inverse places) ≡ m
+unfolding nodeRow
+length-nodeRow c e m inverse places = length-tabulate m _
 
 -- a combination by powers is a row
 pub row-combination : (c e m : ℕ) (inverse places powers new : List ℕ) → powers ≡ powersFrom c e m

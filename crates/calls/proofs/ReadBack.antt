@@ -1,14 +1,14 @@
 -- What the blocks at the nodes of a set tell, through the prepared inverse: the parts of their pair, and the pair's block at any node. At one byte place the
 -- pair is one list of coefficients, and the blocks are its values at the nodes' points. Assumes nothing.
-use mathlib.Core.Path.{_≡_, refl, sym, ap, ap₂, _∙_, subst}
-use mathlib.Core.Bool.{Bool, true, false}
+use mathlib.Core.Path.{_≡_, sym, ap, ap₂, _∙_, subst}
+use mathlib.Core.Bool.{true}
 use mathlib.Core.List.{List}
 use Prim.Native.Nat.{ℕ, suc, _+_, _-_, _*_, _^_, _≤_, _<_}
 use native.Mathlib.Nat.{zero-add}
 use native.Mathlib.Omega.{arith}
 use lib.ListN.{length, getD, take}
-use Rattle.base.specs.Seq.{tabulate, cell}
-use Rattle.base.proofs.Seq.{getD-tabulate, tabulate-ext}
+use Rattle.base.specs.Seq.{cell}
+use Rattle.base.proofs.Seq.{tabulate-ext}
 use Rattle.field.specs.Field.{IsByte, Bytes, add, mul, pow}
 use Rattle.field.specs.FiniteSum.{sum}
 use Rattle.field.proofs.Addition.{add-zero-right}
@@ -17,7 +17,7 @@ use Rattle.interpolation.specs.Polynomial.{evaluate}
 use Rattle.interpolation.proofs.Evaluate.{evaluate-join}
 use Rattle.interpolation.proofs.Rows.{join, join-left, join-right, join-byte, cell-byte, cell-take}
 use Rattle.matrix.specs.Matrix.{IsInverse}
-use Rattle.params.specs.Nodes.{has, size, nodes}
+use Rattle.params.specs.Nodes.{has, size}
 use Rattle.params.specs.Params.{slackParts, working}
 use Rattle.params.specs.declared.Params.{Params}
 use Rattle.params.proofs.Sets.{entry, length-nodes}
@@ -25,7 +25,7 @@ use Rattle.code.specs.Code.{point, block, Gives}
 use Rattle.calls.specs.Coefficients.{powerRows, nodeRow}
 use Rattle.calls.specs.Reading.{listed, Prepared}
 use Rattle.calls.proofs.Solve.{solved, node-value}
-use Rattle.calls.proofs.Listed.{length-listed, size-most}
+use Rattle.calls.proofs.Listed.{length-listed}
 
 -- the pair's coefficients at byte place p, message before slack
 unfoldable pub coeffAt : Params → List ℕ → List ℕ → ℕ → ℕ → ℕ

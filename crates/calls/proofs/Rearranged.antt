@@ -3,8 +3,7 @@ use mathlib.Core.Path.{_≡_, refl, sym, ap, ap₂, _∙_, subst}
 use mathlib.Core.Bool.{Bool, true, false, not, _&&_, true≢false}
 use mathlib.Core.List.{List}
 use mathlib.Core.Logic.{⊎-elim}
-use Prim.Native.Nat.{ℕ, suc, _-_, _*_, _^_, _≤_, _<_}
-use native.Mathlib.Nat.{mul-le-mul-right}
+use Prim.Native.Nat.{ℕ, suc, _*_, _^_, _≤_, _<_}
 use native.Mathlib.Omega.{arith}
 use borrow.Author.Tests.{not-true, le-leb}
 use lib.Dec.{leb}
@@ -13,13 +12,12 @@ use Rattle.base.specs.Gate.{orElse}
 use Rattle.base.specs.Seq.{cell, blocks}
 use Rattle.base.proofs.Cases.{lt-or}
 use Rattle.base.proofs.Seq.{cell-blocks, length-blocks}
-use Rattle.field.specs.Field.{IsByte, Bytes, mul}
+use Rattle.field.specs.Field.{Bytes, mul}
 use Rattle.field.specs.FiniteSum.{sum}
 use Rattle.interpolation.specs.Polynomial.{evaluate}
-use Rattle.interpolation.proofs.Evaluate.{evaluate-byte}
 use Rattle.interpolation.proofs.Rows.{cell-byte}
 use Rattle.matrix.specs.Matrix.{IsInverse}
-use Rattle.params.specs.Nodes.{has, size, outside, count, within}
+use Rattle.params.specs.Nodes.{has, size, outside, count}
 use Rattle.params.specs.Params.{slackParts, reshaped}
 use Rattle.params.specs.Valid.{ReconfigureAccepted}
 use Rattle.params.specs.declared.Params.{Params}
@@ -30,13 +28,16 @@ use Rattle.code.specs.Code.{point, block, Gives}
 use Rattle.code.specs.Calls.{Reconfigured}
 use Rattle.code.proofs.Pairs.{Slack, slack-exists, written-leaves, free, pair-exists, from-reads}
 use Rattle.calls.specs.Kernels.{Inside}
-use Rattle.calls.specs.Coefficients.{powerRows, nodeRow}
-use Rattle.calls.specs.Reading.{listed, Prepared}
-use Rattle.calls.specs.Reconfiguring.{inOrder, ShareRow, ReadTable, Room, newByte, nodeByte}
+use Rattle.calls.specs.Coefficients.{powerRows, nodeRow, inOrder}
+use Rattle.calls.specs.Reading.{listed}
+use Rattle.code.proofs.Additivity.{block-byte}
+use Rattle.calls.proofs.DecodeCore.{prepared-inside}
+use Rattle.calls.specs.Reconfiguring.{ShareRow, ReadTable, Room, newByte, nodeByte}
 use Rattle.calls.specs.declared.reconfiguring.Sizes.{Sizes}
 use Rattle.calls.proofs.Listed.{size-most, length-listed}
 use Rattle.calls.proofs.ReadBack.{node-read}
-use Rattle.calls.proofs.Switched.{in-order, new-value}
+use Rattle.calls.proofs.Switched.{new-value}
+use Rattle.calls.proofs.InOrder.{in-order}
 
 -- ---- the free nodes
 
@@ -79,26 +80,6 @@ module _ (n to rest : ℕ) (hn : n ≤ 32) (told : Outside n to rest) where
       and-true true = refl
       and-true false = refl
 
--- ---- R's blocks
-
-block-byte : (a : Params) (x v : List ℕ) (i p : ℕ) → IsByte (block a x v i p)
-unfolding block
-block-byte a x v i p = evaluate-byte (a .k) (slackParts a) _ _ (point i)
-
--- their places
-pub places-inside : (a : Params) (from : ℕ) (codeword places inverse : List ℕ) → from < 2 ^ 32 → within (a .n) from ≡ true
-    → length codeword ≡ a .n * a .b → Prepared from places inverse → Inside (a .b) codeword places (size from)
-places-inside a from codeword places inverse word hw hc ready =
-    record {
-      enough = omega (arith, ready .places-length, size-most from word);
-      block = λ j hj.
-          let g = entry (has from) 32 j (omega (arith, size-count 32 from word)) in
-          let at : getD places j 0 ≡ g .0 = ready .places-are j hj ∙ ap (λ (k : ℕ). k - 1) (g .3) ∙ omega arith in
-          let low : suc (g .0) ≤ a .n = within-has (a .n) from word .0 hw (suc (g .0)) (g .2) in
-          subst (λ (m : ℕ). suc (getD places j 0) * a .b ≤ m) (sym hc)
-          (subst (λ (m : ℕ). suc m * a .b ≤ a .n * a .b) (sym at) (mul-le-mul-right (a .b) low));
-    }
-
 -- ---- the call
 
 module _ (a : Params) (t : Shape) (from to rest l q : ℕ) (codeword message places inverse table old : List ℕ) (word : from < 2 ^ 32)
@@ -120,7 +101,7 @@ module _ (a : Params) (t : Shape) (from to rest l q : ℕ) (codeword message pla
         b-low = ok .valid .b-low;
         parts = ok .message-length;
         read = subst (λ (m : ℕ). Inside (a .b) codeword places m) (sym hq)
-            (places-inside a from codeword places (read .inverse) word (ok .from-within) (ok .old-length) (read .ready));
+            (prepared-inside a from places (read .inverse) codeword word (ok .from-within) (ok .old-length) (read .ready));
         square = room;
         rows = full;
       }

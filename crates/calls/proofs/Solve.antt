@@ -3,13 +3,12 @@
 use mathlib.Core.Path.{_≡_, refl, sym, ap, ap₂, _∙_, subst}
 use mathlib.Core.List.{List, _++_}
 use Prim.Native.Nat.{ℕ, suc, _+_, _*_, _≤_, _<_}
-use native.Mathlib.Nat.{mul-le-mul, le-trans}
-use native.Mathlib.Omega.{arith}
-use lib.ListN.{length, getD, drop, take, replicate, length-replicate, getD-replicate}
+use native.Mathlib.Nat.{mul-le-mul}
+use lib.ListN.{length, getD, take, replicate, length-replicate, getD-replicate}
 use lib.Seq.{ext-getD, take-at}
-use Rattle.base.specs.Seq.{tabulate, cell, blocks}
+use Rattle.base.specs.Seq.{tabulate, cell}
 use Rattle.base.proofs.Seq.{length-tabulate, getD-tabulate, length-blocks, cell-blocks}
-use Rattle.field.specs.Field.{IsByte, Bytes, mul, pow}
+use Rattle.field.specs.Field.{IsByte, mul, pow}
 use Rattle.field.specs.FiniteSum.{sum}
 use Rattle.field.proofs.Multiplication.{mul-comm, mul-assoc}
 use Rattle.field.proofs.FiniteSum.{sum-ext, sum-exchange, mul-sum, sum-mul}
@@ -40,9 +39,12 @@ pub powerRows-at : (e m : ℕ) (nodes : List ℕ) (i j : ℕ) → i < length nod
 unfolding powerRows entry cell
 powerRows-at e m nodes i j hi hj = cell-blocks m (length nodes) _ i j hi hj
 
--- a matrix of at most 32 rows has room in 1,024 bytes
+-- two sides of at most 32 give an area that has room in 1,024 bytes
+pub areas-fit : (m n : ℕ) → m ≤ 32 → n ≤ 32 → m * n ≤ 1024
+areas-fit m n hm hn = mul-le-mul hm hn
+
 pub area-fits : (m : ℕ) → m ≤ 32 → m * m ≤ 1024
-area-fits m h = mul-le-mul h h
+area-fits m h = areas-fit m m h h
 
 -- the front of a buffer, once its new bytes are back
 pub front-back : (n : ℕ) (new rest : List ℕ) → length new ≡ n → take n (new ++ rest) ≡ new

@@ -3,11 +3,11 @@
 use mathlib.Core.Path.{_≡_, sym, ap, ap₂, _∙_, subst}
 use mathlib.Core.List.{List, _++_}
 use Prim.Native.Nat.{ℕ, suc, _+_, _*_, _≤_, _<_}
-use native.Mathlib.Nat.{mul-le-mul, mul-le-mul-right, zero-add}
+use native.Mathlib.Nat.{zero-add}
 use native.Mathlib.Omega.{arith}
 use lib.ListN.{length, getD, take, length-append}
-use Rattle.base.specs.Seq.{tabulate, cell}
-use Rattle.base.proofs.Seq.{length-tabulate, getD-tabulate, length-blocks, cell-blocks, cell-lt}
+use Rattle.base.specs.Seq.{cell}
+use Rattle.base.proofs.Seq.{getD-tabulate, length-blocks, cell-blocks, cell-lt}
 use Rattle.field.specs.Field.{add, mul, pow}
 use Rattle.field.specs.FiniteSum.{sum}
 use Rattle.field.proofs.Addition.{add-zero-eq, add-zero-right}
@@ -16,13 +16,9 @@ use Rattle.field.proofs.FiniteSum.{sum-zero, sum-byte, sum-ext, sum-add, mul-su
 use Rattle.interpolation.specs.Polynomial.{evaluate}
 use Rattle.matrix.specs.Matrix.{entry, IsInverse}
 use Rattle.code.specs.Code.{point}
-use Rattle.calls.specs.Kernels.{plus, combinedRows, Inside}
-use Rattle.calls.specs.Coefficients.{powerRows, Slackens, Spreads}
+use Rattle.calls.specs.Kernels.{plus, combinedRows}
+use Rattle.calls.specs.Coefficients.{powerRows, inOrder, Slackens, Spreads}
 use Rattle.calls.proofs.Solve.{length-powerRows, powerRows-at, front-back, solved}
-
--- two sides of at most 32 give an area that has room in 1,024 bytes
-pub areas-fit : (m n : ℕ) → m ≤ 32 → n ≤ 32 → m * n ≤ 1024
-areas-fit m n hm hn = mul-le-mul hm hn
 
 -- the front of a buffer, once its n new bytes are back
 pub front-room : (n : ℕ) (new rest : List ℕ) → length new ≡ n → n ≤ length (new ++ rest)
@@ -31,28 +27,13 @@ front-room n new rest e = omega (arith, length-append new rest)
 pub front-count : (n : ℕ) (new rest : List ℕ) → length new ≡ n → n ≡ length (take n (new ++ rest))
 front-count n new rest e = sym (ap length (front-back n new rest e) ∙ e)
 
--- the block numbers 0, 1, .., 31, as the code makes them
-abbrev pub first : List ℕ
-first = tabulate 32 (λ j. j)
-
--- the blocks of a list that has as many
-pub first-inside : (b count : ℕ) (src places : List ℕ) → places ≡ first → count ≤ 32 → count * b ≤ length src → Inside b src places count
-first-inside b count src places e h fits =
-    record {
-      enough = subst (λ (l : List ℕ). count ≤ length l) (sym e) (subst (λ (m : ℕ). count ≤ m) (sym (length-tabulate 32 (λ j. j))) h);
-      block = λ j hj. subst (λ (m : ℕ). suc m * b ≤ length src) (sym (at-first j hj)) (omega (arith, mul-le-mul-right b hj));
-    }
-  where
-    at-first : (j : ℕ) → j < count → getD places j 0 ≡ j
-    at-first j hj = ap (λ (l : List ℕ). getD l j 0) e ∙ getD-tabulate 32 (λ j. j) j (omega arith)
-
 pub powers-at : (e m : ℕ) (nodes : List ℕ) (i j : ℕ) → i < length nodes → j < m
     → cell m (powerRows e m nodes) i j ≡ pow (point (getD nodes i 0)) (e + suc j)
 unfolding entry cell
 powers-at e m nodes i j hi hj = powerRows-at e m nodes i j hi hj
 
 pub combinedRows-at : (rows b width : ℕ) (src coeffs : List ℕ) (i p : ℕ) → width ≤ 32 → i < rows → p < b
-    → cell b (combinedRows rows b width src first coeffs) i p ≡ sum width (λ j. mul (cell width coeffs i j) (cell b src j p))
+    → cell b (combinedRows rows b width src inOrder coeffs) i p ≡ sum width (λ j. mul (cell width coeffs i j) (cell b src j p))
 unfolding combinedRows
 combinedRows-at rows b width src coeffs i p h hi hp =
     cell-blocks b rows _ i p hi hp
@@ -84,11 +65,11 @@ leading-row k nodes x i hi =
 
 -- The inverse of the outside nodes' remaining powers times their leading powers takes a change to its slack; powers and inverse as the code lends them.
 pub slack-made : (k : ℕ) (outside inverse powers places lent out : List ℕ) → length outside ≤ 32
-    → IsInverse (length outside) (powerRows k (length outside) outside) inverse → powers ≡ powerRows 0 k outside → places ≡ first → lent ≡ inverse
+    → IsInverse (length outside) (powerRows k (length outside) outside) inverse → powers ≡ powerRows 0 k outside → places ≡ inOrder → lent ≡ inverse
     → out ≡ combinedRows (length outside) k (length outside) powers places lent → Slackens k outside out
 unfolding evaluate
 slack-made k outside inverse powers places lent out most inv hp hf hl made =
-    let ho : out ≡ combinedRows (length outside) k (length outside) powers first inverse =
+    let ho : out ≡ combinedRows (length outside) k (length outside) powers inOrder inverse =
     made ∙ ap₂ (combinedRows (length outside) k (length outside) powers) hf hl in
     record {
       takes = λ x v clear t ht.
@@ -109,12 +90,12 @@ slack-made k outside inverse powers places lent out most inv hp hf hl made =
 
 -- Leading powers plus remaining powers times the slack's rows take a change to the values at the nodes.
 pub spread-made : (k : ℕ) (outside nodes slack lent places powers made more old rows : List ℕ) → length outside ≤ 32 → Slackens k outside slack
-    → lent ≡ slack → places ≡ first → powers ≡ powerRows k (length outside) nodes
+    → lent ≡ slack → places ≡ inOrder → powers ≡ powerRows k (length outside) nodes
     → made ≡ combinedRows (length nodes) k (length outside) lent places powers → more ≡ made
     → old ≡ powerRows 0 k nodes → rows ≡ plus old more → Spreads k outside nodes rows
 unfolding evaluate plus cell
 spread-made k outside nodes slack lent places powers made more old rows most slackens hl hf hp hd hmore hold hrows =
-    let hm : more ≡ combinedRows (length nodes) k (length outside) slack first powers =
+    let hm : more ≡ combinedRows (length nodes) k (length outside) slack inOrder powers =
     hmore ∙ hd ∙ ap₂ (λ (s q : List ℕ). combinedRows (length nodes) k (length outside) s q powers) hl hf in
     let hr : rows ≡ plus (powerRows 0 k nodes) more = hrows ∙ ap (λ (l : List ℕ). plus l more) hold in
     record {

@@ -7,7 +7,7 @@ use native.Mathlib.Nat.{zero-add}
 use native.Mathlib.Omega.{arith}
 use lib.ListN.{length, getD, take}
 use Rattle.base.specs.Seq.{cell}
-use Rattle.base.proofs.Seq.{tabulate-ext, getD-tabulate, getD-tabulate-past}
+use Rattle.base.proofs.Seq.{tabulate-ext, getD-tabulate-past}
 use Rattle.field.specs.Field.{IsByte, add, mul, pow}
 use Rattle.field.specs.FiniteSum.{sum}
 use Rattle.field.proofs.Addition.{add-byte, add-assoc, add-self, add-zero-left, add-zero-right, add-exchange}
@@ -17,13 +17,11 @@ use Rattle.interpolation.specs.Polynomial.{evaluate}
 use Rattle.interpolation.proofs.Rows.{cell-take}
 use Rattle.matrix.specs.Matrix.{IsInverse}
 use Rattle.code.specs.Code.{point}
-use Rattle.calls.specs.Coefficients.{powersFrom, powerRows, nodeRow}
-use Rattle.calls.specs.Reconfiguring.{inOrder, ShareRow, newCoeff}
+use Rattle.calls.specs.Coefficients.{powersFrom, powerRows, nodeRow, inOrder}
+use Rattle.calls.specs.Reconfiguring.{ShareRow, newCoeff}
+use Rattle.calls.proofs.InOrder.{in-order}
 use Rattle.calls.proofs.PowerRows.{powersFrom-at}
 use Rattle.calls.proofs.Solve.{node-value}
-
-pub in-order : (j : ℕ) → j < 32 → getD inOrder j 0 ≡ j
-in-order j h = getD-tabulate 32 (λ j. j) j h
 
 -- a row plus multiples of rows, each weighted by X
 weighted-rows : (m l : ℕ) (s g : ℕ → ℕ) (R : ℕ → ℕ → ℕ) (X : ℕ → ℕ)

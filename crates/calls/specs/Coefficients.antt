@@ -21,6 +21,10 @@ powersFrom c e m = tabulate m (λ j. pow c (e + suc j))
 unfoldable pub powerRows : ℕ → ℕ → List ℕ → List ℕ
 powerRows e m nodes = blocks m (length nodes) (λ i j. pow (point (getD nodes i 0)) (e + suc j))
 
+-- the block numbers 0, 1, .., 31
+abbrev pub inOrder : List ℕ
+inOrder = tabulate 32 (λ j. j)
+
 -- the block number of each node of a list
 unfoldable pub placesOf : List ℕ → List ℕ
 placesOf nodes = tabulate (length nodes) (λ j. getD nodes j 0 - 1)

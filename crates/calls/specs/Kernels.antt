@@ -2,10 +2,10 @@
 use mathlib.Core.Path.{_≡_}
 use mathlib.Core.Bool.{Bool, true, false}
 use mathlib.Core.List.{List}
-use Prim.Native.Nat.{ℕ, suc, _+_, _-_, _*_, _≤_, _<_}
+use Prim.Native.Nat.{ℕ, suc, _-_, _*_, _≤_, _<_}
 use lib.ListN.{length, getD}
 use Rattle.base.specs.Seq.{tabulate, cell, blocks}
-use Rattle.field.specs.Field.{add, mul, pow}
+use Rattle.field.specs.Field.{add, mul}
 use Rattle.field.specs.FiniteSum.{sum}
 
 -- xs + c·ys, byte by byte

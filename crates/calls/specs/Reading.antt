@@ -5,12 +5,12 @@ use Prim.Native.Nat.{ℕ, _-_, _*_, _≤_, _<_}
 use lib.ListN.{length, getD, take}
 use Rattle.params.specs.Nodes.{has, size, nodes}
 use Rattle.matrix.specs.Matrix.{IsInverse}
-use Rattle.base.specs.Seq.{tabulate, cell}
+use Rattle.base.specs.Seq.{cell}
 use Rattle.field.specs.Field.{mul}
 use Rattle.field.specs.FiniteSum.{sum}
 use Rattle.code.specs.Code.{point}
 use Rattle.calls.specs.Kernels.{Inside}
-use Rattle.calls.specs.Coefficients.{powerRows, nodeRow}
+use Rattle.calls.specs.Coefficients.{powerRows, nodeRow, inOrder}
 
 -- the set's nodes in rising order
 abbrev pub listed : ℕ → List ℕ
@@ -33,7 +33,7 @@ pub record Room (places inverse row powers block : List ℕ) : Type 0 where
 -- byte p of node i's block, made up of the blocks at q places by the node's row of coefficients
 unfoldable pub nodeBlock : ℕ → ℕ → List ℕ → List ℕ → List ℕ → ℕ → ℕ → ℕ
 nodeBlock b q codeword places inverse i p =
-    sum q (λ k. mul (getD (nodeRow (point i) 0 q inverse (tabulate 32 (λ j. j))) k 0) (cell b codeword (getD places k 0) p))
+    sum q (λ k. mul (getD (nodeRow (point i) 0 q inverse inOrder) k 0) (cell b codeword (getD places k 0) p))
 
 -- what finding such a block asks: q places of codeword's blocks, an inverse of side q, and room for q powers
 pub record Readable (b q : ℕ) (codeword places inverse powers : List ℕ) : Type 0 where

@@ -6,19 +6,15 @@ use Prim.Native.Nat.{ℕ, suc, _+_, _*_, _≤_, _<_}
 use lib.Dec.{ltb}
 use lib.ListN.{length, getD}
 use Rattle.base.specs.Gate.{orElse}
-use Rattle.base.specs.Seq.{tabulate, cell}
+use Rattle.base.specs.Seq.{cell}
 use Rattle.field.specs.Field.{add, mul, pow}
 use Rattle.field.specs.FiniteSum.{sum}
 use Rattle.params.specs.Nodes.{has, size}
 use Rattle.code.specs.Code.{point}
 use Rattle.calls.specs.Kernels.{Inside}
-use Rattle.calls.specs.Coefficients.{powersFrom, nodeRow}
+use Rattle.calls.specs.Coefficients.{powersFrom, nodeRow, inOrder}
 use Rattle.calls.specs.Reading.{listed, Prepared}
 use Rattle.calls.specs.declared.reconfiguring.Sizes.{Sizes}
-
--- the block numbers 0, 1, .., 31
-abbrev pub inOrder : List ℕ
-inOrder = tabulate 32 (λ j. j)
 
 -- The coefficients of the new slack's share at c, where c's block stays: the message's share, from 0 on, and the old pair's block by the q blocks read,
 -- from 32 on.

@@ -7,11 +7,10 @@ use params::Node;
 ghost use mathlib.Core.Path.{_≡_};
 ghost use Prim.Native.Nat.{_-_, _*_, _≤_, _<_};
 ghost use lib.ListN.{length};
-ghost use Rattle.base.specs.Seq.{tabulate};
 ghost use Rattle.matrix.specs.Matrix.{IsInverse};
 ghost use Rattle.code.specs.Code.{point};
 ghost use Rattle.calls.specs.Kernels.{Inside};
-ghost use Rattle.calls.specs.Coefficients.{powersFrom, powerRows, Solvable, nodeRow, placesOf};
+ghost use Rattle.calls.specs.Coefficients.{powersFrom, powerRows, Solvable, nodeRow, placesOf, inOrder};
 
 // The point rule: the only place where a node's number becomes a field element.
 pub fn point(node: Node) -> Elem
@@ -92,7 +91,7 @@ pub(crate) fn node_row(
 
 // The block numbers 0, 1, 2, .., 31.
 pub(crate) fn first_places() -> [u8; 32]
-    ensures { λ r. ⌜ r ≡ tabulate 32 (λ j. j) ⌝ }
+    ensures { λ r. ⌜ r ≡ inOrder ⌝ }
 {
     [
         0,

@@ -1,6 +1,6 @@
 -- The Read-Write code (document 01, "The arrangement and the record"): what a node's block is. Assumes nothing.
 use mathlib.Core.Path.{_≡_}
-use mathlib.Core.Bool.{Bool, true, false, _&&_}
+use mathlib.Core.Bool.{Bool, true, _&&_}
 use mathlib.Core.List.{List}
 use Prim.Native.Nat.{ℕ, suc, _*_, _<_}
 use lib.Dec.{leb}

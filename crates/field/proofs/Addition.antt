@@ -1,7 +1,7 @@
 -- The laws of the sum, and of functions that respect it. A function that respects sums is known by its values at the powers of two:
 -- so a law of products, which respect sums in each factor, is shown for all bytes by computing it at 1, 2, 4, .., 128. Assumes nothing.
 use mathlib.Core.Path.{_≡_, refl, sym, ap, ap₂, _∙_, subst}
-use Prim.Native.Nat.{ℕ, zero, suc, _+_, _*_, _/_, _%_, _^_, _≤_, _<_}
+use Prim.Native.Nat.{ℕ, zero, suc, _+_, _*_, _/_, _%_, _^_, _<_}
 use native.Mathlib.Nat.{mod-lt, zero-mul, one-mul, zero-lt-suc, not-suc-le-zero, le-of-suc-le-suc}
 use native.Mathlib.Omega.{arith}
 use lib.Arith.{bin-ind, lt-one, digits-div, digits-mod}

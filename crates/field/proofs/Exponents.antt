@@ -1,19 +1,19 @@
 -- Powers, the table of the powers of 02, inverses and division by what is not 0. That 02 gives every nonzero byte exactly once is one computed
 -- test over the 255 powers and their exponents; the laws of exponents and inverses follow. Assumes nothing.
 use mathlib.Core.Path.{_≡_, refl, sym, ap, ap₂, _∙_, subst}
-use mathlib.Core.Bool.{Bool, true, false}
+use mathlib.Core.Bool.{Bool}
 use mathlib.Core.List.{List, [], _∷_}
 use mathlib.Core.Logic.{⊎-elim}
-use Prim.Native.Nat.{ℕ, zero, suc, _+_, _-_, _*_, _/_, _%_, _^_, _≤_, _<_}
-use native.Mathlib.Nat.{not-suc-le-zero, le-of-suc-le-suc, zero-add, suc-add, mod-lt, zero-lt-suc, div-add-mod'}
+use Prim.Native.Nat.{ℕ, zero, suc, _+_, _-_, _*_, _/_, _%_, _<_}
+use native.Mathlib.Nat.{not-suc-le-zero, le-of-suc-le-suc, zero-add, suc-add, div-add-mod'}
 use native.Mathlib.Numerals.{add-one}
 use native.Mathlib.Omega.{arith}
 use lib.Dec.{T, eqb, ltb, eqb→eq, ltb→lt}
 use lib.ListN.{length, getD, set, replicate}
 use Rattle.base.proofs.Test.{both, both-left, both-right, allBelow, below}
 use Rattle.base.proofs.Cases.{eq-or}
-use Rattle.field.specs.Field.{IsByte, add, mul, pow, Inverse, PowerTable, LogTable}
-use Rattle.field.proofs.Multiplication.{mul-comm, mul-assoc, mul-byte, mul-one-left, mul-one-right, mul-zero-left, mul-zero-right}
+use Rattle.field.specs.Field.{IsByte, mul, pow, Inverse, PowerTable, LogTable}
+use Rattle.field.proofs.Multiplication.{mul-comm, mul-assoc, mul-byte, mul-one-left, mul-one-right, mul-zero-right}
 
 -- ---- exponents
 

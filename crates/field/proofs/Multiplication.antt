@@ -9,7 +9,7 @@ use lib.Dec.{T, eqb, eqb→eq}
 use lib.Bits.{bitXor, xor-block, xor-shr, xor-mod}
 use Rattle.base.proofs.Test.{allBelow, below}
 use Rattle.field.specs.Field.{IsByte, add, coeff, scaled, polyMul, polyRem, modulus, mul}
-use Rattle.field.proofs.Addition.{Additive, additive-zero, agree, add-comm, add-self, add-zero-left, add-zero-right, add-exchange}
+use Rattle.field.proofs.Addition.{Additive, additive-zero, agree, add-self, add-zero-left, add-zero-right, add-exchange}
 
 -- ---- products respect sums
 

@@ -4,7 +4,7 @@ use mathlib.Core.List.{List}
 use Prim.Native.Nat.{ℕ, suc, _+_, _*_, _<_}
 use lib.ListN.{length, getD}
 use Rattle.base.specs.Seq.{cell}
-use Rattle.field.specs.Field.{IsByte, Bytes, add, mul, pow}
+use Rattle.field.specs.Field.{Bytes, add, mul, pow}
 use Rattle.field.specs.FiniteSum.{sum}
 
 -- "sum over j = 1..k of x_j·c^j, plus sum over j = 1..l of v_j·c^(k+j)", with e for k and m for l. The coefficients are counted from 0 here:

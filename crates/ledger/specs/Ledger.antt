@@ -13,7 +13,7 @@ use Rattle.params.specs.Params.{reshaped}
 use Rattle.params.specs.Gates.{encodeGate, decodeGate, deltaGate, updateGate, repairGate, checkGate, viewGate, reconfigureGate, damageGate}
 use Rattle.params.specs.declared.Params.{Params}
 use Rattle.params.specs.declared.Shape.{Shape}
-use Rattle.code.specs.Calls.{EncodePost, DecodePost, DeltaPost, UpdatePost, RepairPost, CheckPost, ViewPost, ReconfigurePost, number}
+use Rattle.code.specs.Calls.{EncodePost, DecodePost, DeltaPost, UpdatePost, RepairPost, CheckPost, ViewPost, ReconfigurePost}
 use Rattle.code.specs.declared.Verdict.{Verdict}
 
 -- ---- the running system and the machine

@@ -1,5 +1,4 @@
 -- Nodes and node sets (document 01, "The arrangement and the record"). A set is also a test on node numbers, f : ℕ → Bool. Assumes nothing.
-use mathlib.Core.Path.{_≡_}
 use mathlib.Core.Bool.{Bool, true, false, not, _&&_}
 use mathlib.Core.List.{List, [], _∷_, _++_}
 use Prim.Native.Nat.{ℕ, zero, suc, _+_, _/_, _%_, _^_}

@@ -1,13 +1,11 @@
 -- After i turns the first i rows are the powers of their points. Assumes nothing.
-use mathlib.Core.Path.{_≡_, refl, sym, ap, ap₂, _∙_}
-use mathlib.Core.List.{List}
-use Prim.Native.Nat.{ℕ, suc, _+_, _-_, _*_, _≤_, _<_}
+use mathlib.Core.Path.{ap, _∙_}
+use Prim.Native.Nat.{ℕ, suc, _+_, _-_, _*_, _≤_}
 use native.Mathlib.Omega.{arith}
 use borrow.Author.Needs.{needs}
 use denote.Ref.{now}
 use lib.ListN.{length, getD}
 use Rattle.base.proofs.Parts.{Blocked, blocked-none, blocked-more, blocked-all, row-ends, partOf, length-partOf}
-use Rattle.base.proofs.Seq.{length-tabulate, getD-tabulate}
 use Rattle.field.specs.Field.{pow}
 use Rattle.code.specs.Code.{point}
 use Rattle.calls.specs.Coefficients.{powersFrom, powerRows}

@@ -1,23 +1,22 @@
 -- After i turns the first i blocks are those of their nodes. Assumes nothing.
 use mathlib.Core.Path.{_≡_, refl, sym, ap, _∙_, subst, subst⁻¹}
-use mathlib.Core.List.{List, _++_}
-use Prim.Native.Nat.{ℕ, suc, _+_, _-_, _*_, _≤_, _<_}
+use Prim.Native.Nat.{ℕ, suc, _+_, _-_, _*_, _≤_}
 use native.Mathlib.Numerals.{add-one}
 use native.Mathlib.Omega.{arith}
 use borrow.Author.Needs.{needs}
 use denote.Ref.{now}
-use lib.ListN.{length, getD, take, drop, length-append, length-drop}
+use lib.ListN.{length, take, drop, length-append, length-drop}
 use lib.Seq.{length-take-le}
 use Rattle.base.specs.Seq.{cell}
 use Rattle.base.proofs.Seq.{length-tabulate}
 use Rattle.base.proofs.Parts.{Blocked, blocked-none, blocked-more, row-ends, partOf, length-partOf}
 use Rattle.interpolation.specs.Polynomial.{evaluate}
-use Rattle.params.specs.Params.{slackParts}
 use Rattle.params.proofs.Valid.{slack-add}
 use Rattle.code.specs.Code.{point, block}
 use Rattle.calls.specs.Kernels.{Inside}
 use Rattle.calls.specs.Encoding.{BlockOf}
-use Rattle.calls.proofs.EncodeCore.{inside-first, node-block}
+use Rattle.calls.proofs.EncodeCore.{node-block}
+use Rattle.calls.proofs.InOrder.{inside-first}
 use Rattle.calls.proofs.encoding.encode_within.Statement.{statement}
 use Rattle.calls.proofs.encoding.encode_within.Tie as tie
 
@@ -94,10 +93,10 @@ encode-node-requires c κs =
       omega arith,
       (
         subst⁻¹ (λ (m : ℕ). Inside m (now (s .args .message)) (c .before .before .before .before .before .first-places .result) (s .args .a .k)) part
-            (inside-first (s .args .a .b) (s .args .a .k) _ _ (c .before .before .before .before .before .first-places .ensures) (omega (arith, parts-most (c .before .before .before .before .before .before))) (s .pre .0 .message-length)),
+            (inside-first (s .args .a .b) (s .args .a .k) _ _ (c .before .before .before .before .before .first-places .ensures) (omega (arith, parts-most (c .before .before .before .before .before .before))) (omega (arith, s .pre .0 .message-length))),
         subst⁻¹ (λ (m : ℕ). Inside m (now (s .args .slack)) (c .before .before .before .before .before .first-places .result) (length (take (s .args .a .k + z .result) (l .powers)) - s .args .a .k)) part
             (subst⁻¹ (Inside (s .args .a .b) (now (s .args .slack)) (c .before .before .before .before .before .first-places .result)) (omega arith)
-            (inside-first (s .args .a .b) (z .result) _ _ (c .before .before .before .before .before .first-places .ensures) (omega (arith, parts-most (c .before .before .before .before .before .before))) (s .pre .0 .slack-length ∙ ap (λ (m : ℕ). m * s .args .a .b) (sym (z .ensures))))),
+            (inside-first (s .args .a .b) (z .result) _ _ (c .before .before .before .before .before .first-places .ensures) (omega (arith, parts-most (c .before .before .before .before .before .before))) (omega (arith, s .pre .0 .slack-length ∙ ap (λ (m : ℕ). m * s .args .a .b) (sym (z .ensures)))))),
       ),
     )
 

@@ -1,12 +1,11 @@
 -- After j turns the first j blocks are added. Assumes nothing.
-use mathlib.Core.Path.{_≡_, refl, sym, ap, _∙_, subst⁻¹}
+use mathlib.Core.Path.{ap, _∙_, subst⁻¹}
 use Prim.Native.Nat.{ℕ, _+_, _-_, _*_, _≤_}
 use denote.Ref.{now}
 use native.Mathlib.Omega.{arith}
 use borrow.Author.Needs.{needs}
 use lib.ListN.{length, getD}
 use Rattle.base.proofs.Parts.{partOf, partOf-at}
-use Rattle.calls.specs.Kernels.{Inside}
 use Rattle.calls.proofs.Accumulated.{Accumulated, accumulated-none, accumulated-more, accumulated-all, block-end}
 use Rattle.calls.proofs.kernels.accumulate.Statement.{statement}
 use Rattle.calls.proofs.kernels.accumulate.Tie as tie

@@ -1,9 +1,9 @@
 -- After p turns the first p bytes are 0, the others as they were. Assumes nothing.
-use mathlib.Core.Path.{_≡_, refl, sym, ap, ap₂, _∙_}
-use Prim.Native.Nat.{ℕ, _-_, _≤_}
+use mathlib.Core.Path.{refl, _∙_}
+use Prim.Native.Nat.{_-_, _≤_}
 use native.Mathlib.Omega.{arith}
 use borrow.Author.Needs.{needs}
-use lib.ListN.{length, getD}
+use lib.ListN.{length}
 use Rattle.base.proofs.Filled.{Filled, filled-none, filled-more, filled-all}
 use Rattle.base.proofs.Seq.{tabulate-zeros}
 use Rattle.calls.proofs.kernels.clear.Statement.{statement}

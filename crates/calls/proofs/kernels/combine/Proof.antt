@@ -1,14 +1,9 @@
 -- Cleared, and then added up. Assumes nothing.
-use mathlib.Core.Path.{_≡_, refl, sym, ap, _∙_, subst⁻¹}
-use mathlib.Core.List.{List}
-use Prim.Native.Nat.{ℕ, _<_}
-use native.Mathlib.Omega.{arith}
+use mathlib.Core.Path.{ap, _∙_, subst⁻¹}
+use Prim.Native.Nat.{ℕ}
 use denote.Ref.{now}
-use lib.ListN.{length, getD, replicate, length-replicate, getD-replicate}
-use Rattle.base.proofs.Seq.{eq-tabulate}
-use Rattle.field.specs.Field.{add}
-use Rattle.field.proofs.Addition.{add-zero-left}
-use Rattle.calls.specs.Kernels.{combined, Inside}
+use lib.ListN.{length, length-replicate}
+use Rattle.calls.specs.Kernels.{Inside}
 use Rattle.calls.proofs.Accumulated.{from-clear}
 use borrow.Author.Needs.{needs}
 use Rattle.calls.proofs.kernels.combine.Statement.{statement}

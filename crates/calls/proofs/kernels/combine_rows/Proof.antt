@@ -1,13 +1,10 @@
 -- After i turns the first i blocks are the combinations by their rows. Assumes nothing.
-use mathlib.Core.Path.{_≡_, refl, sym, ap, _∙_}
-use Prim.Native.Nat.{ℕ, suc, _+_, _-_, _*_, _≤_, _<_}
-use native.Mathlib.Nat.{suc-mul, mul-le-mul-right}
+use Prim.Native.Nat.{_+_, _-_, _*_, _≤_}
 use native.Mathlib.Omega.{arith}
 use borrow.Author.Needs.{needs}
 use denote.Ref.{now}
-use lib.ListN.{length, getD}
-use Rattle.base.proofs.Parts.{Blocked, blocked-none, blocked-more, blocked-all, row-ends, partOf, length-partOf}
-use Rattle.calls.specs.Kernels.{combinedRows}
+use lib.ListN.{length}
+use Rattle.base.proofs.Parts.{Blocked, blocked-none, blocked-more, row-ends, partOf, length-partOf}
 use Rattle.calls.proofs.Accumulated.{rowAt, combine-inside, row-combined, rows-combined}
 use Rattle.calls.proofs.kernels.combine_rows.Statement.{statement}
 use Rattle.calls.proofs.kernels.combine_rows.Tie as tie

@@ -4,7 +4,8 @@ use Prim.Native.Nat.{ℕ}
 use denote.Ref.{now}
 use lib.ListN.{length}
 use Rattle.calls.specs.Kernels.{Inside}
-use Rattle.calls.proofs.NodeBlock.{row-inside, row-length, block-found}
+use Rattle.calls.proofs.InOrder.{inside-first}
+use Rattle.calls.proofs.NodeBlock.{row-length, block-found}
 use borrow.Author.Needs.{needs}
 use Rattle.calls.proofs.reading.node_block.Statement.{statement}
 use Rattle.calls.proofs.reading.node_block.Tie as tie
@@ -21,7 +22,7 @@ slice-aggregate-node-row c = search needs
 node-row-requires : tie.Need-node-row-requires
 node-row-requires c κs =
     let s = c .before .before .before .before .before .before .before .before .before .before .before in
-    (s .pre .room, row-inside (length (now (s .args .row))) (now (s .args .inverse)) (c .before .before .before .before .first-places .result) (c .before .before .before .before .first-places .ensures) (s .pre .most) (s .pre .side))
+    (s .pre .room, inside-first (length (now (s .args .row))) (length (now (s .args .row))) (now (s .args .inverse)) (c .before .before .before .before .first-places .result) (c .before .before .before .before .first-places .ensures) (s .pre .most) (s .pre .side))
 
 combine-requires : tie.Need-combine-requires
 combine-requires c κs =

@@ -7,7 +7,9 @@ use denote.Ref.{now}
 use lib.ListN.{length}
 use lib.Seq.{length-take-le}
 use Rattle.calls.proofs.Solve.{length-powerRows, front-back}
-use Rattle.calls.proofs.Spread.{areas-fit, front-room, front-count, first-inside, length-combinedRows, spread-made}
+use Rattle.calls.proofs.Solve.{areas-fit}
+use Rattle.calls.proofs.InOrder.{inside-first}
+use Rattle.calls.proofs.Spread.{front-room, front-count, length-combinedRows, spread-made}
 use Rattle.calls.proofs.updating.add_slack_within.Statement.{statement}
 use Rattle.calls.proofs.updating.add_slack_within.Tie as tie
 
@@ -91,7 +93,7 @@ combine-rows-requires c κs =
       (
         omega (arith, slice-aggregate-combine-rows-4 c),
         (
-          first-inside _ _ _ _ (c .before .before .before .before .first-places .ensures) (s .most) (omega (arith, slice-aggregate-combine-rows-2 (c .before .before))),
+          inside-first _ _ _ _ (c .before .before .before .before .first-places .ensures) (s .most) (omega (arith, slice-aggregate-combine-rows-2 (c .before .before))),
           s .k-low,
         ),
       ),

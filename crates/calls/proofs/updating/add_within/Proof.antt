@@ -7,7 +7,7 @@ use lib.ListN.{length, take}
 use lib.Seq.{length-take-le}
 use Rattle.params.specs.Nodes.{has, nodes}
 use Rattle.calls.specs.Coefficients.{Writable}
-use Rattle.calls.proofs.Spread.{areas-fit}
+use Rattle.calls.proofs.Solve.{areas-fit}
 use Rattle.calls.proofs.Differences.{length-written, written-list, k-most, w-most, addable, updated-made}
 use Rattle.calls.proofs.updating.add_within.Statement.{statement}
 use Rattle.calls.proofs.updating.add_within.Tie as tie

@@ -9,7 +9,7 @@ use lib.ListN.{length, take}
 use lib.Seq.{length-take-le}
 use Rattle.params.specs.Nodes.{has, nodes}
 use Rattle.params.proofs.Valid.{slack-le}
-use Rattle.calls.proofs.Spread.{areas-fit}
+use Rattle.calls.proofs.Solve.{areas-fit}
 use Rattle.calls.proofs.Differences.{length-written, length-outside, written-list, outside-list, k-most, w-most, spreadable, spreads-front}
 use Rattle.calls.proofs.updating.delta_rows.Statement.{statement}
 use Rattle.calls.proofs.updating.delta_rows.Tie as tie

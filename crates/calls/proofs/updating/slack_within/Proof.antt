@@ -7,7 +7,9 @@ use denote.Ref.{now}
 use lib.ListN.{length}
 use lib.Seq.{length-take-le}
 use Rattle.calls.proofs.Solve.{length-powerRows, front-back}
-use Rattle.calls.proofs.Spread.{areas-fit, front-room, front-count, first-inside, slack-made}
+use Rattle.calls.proofs.Solve.{areas-fit}
+use Rattle.calls.proofs.InOrder.{inside-first}
+use Rattle.calls.proofs.Spread.{front-room, front-count, slack-made}
 use Rattle.calls.proofs.updating.slack_within.Statement.{statement}
 use Rattle.calls.proofs.updating.slack_within.Tie as tie
 
@@ -76,7 +78,7 @@ combine-rows-requires c κs =
       (
         omega (arith, slice-aggregate-combine-rows-3 c),
         (
-          first-inside _ _ _ _ (c .before .before .before .before .first-places .ensures) (s .pre .0 .most) (omega (arith, slice-aggregate-combine-rows (c .before .before))),
+          inside-first _ _ _ _ (c .before .before .before .before .first-places .ensures) (s .pre .0 .most) (omega (arith, slice-aggregate-combine-rows (c .before .before))),
           s .pre .0 .k-low,
         ),
       ),

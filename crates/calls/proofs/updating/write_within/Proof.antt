@@ -3,7 +3,8 @@ use native.Mathlib.Omega.{arith}
 use borrow.Author.Needs.{needs}
 use denote.Ref.{now}
 use Rattle.calls.specs.Coefficients.{Writable}
-use Rattle.calls.proofs.Spread.{areas-fit, first-inside}
+use Rattle.calls.proofs.Solve.{areas-fit}
+use Rattle.calls.proofs.InOrder.{inside-first}
 use Rattle.calls.proofs.Differences.{k-most, w-most, differences-made}
 use Rattle.calls.proofs.updating.write_within.Statement.{statement}
 use Rattle.calls.proofs.updating.write_within.Tie as tie
@@ -28,7 +29,7 @@ combine-rows-requires c κs =
       (
         omega (arith, areas-fit _ _ (w-most (s .args .a) _ (written (c .before .before .before .before .before .before .before .before .before .before .before))) k, c .before .before .before .before .before .before .delta-rows .kept .1 .1 .0, s .pre .1),
         (
-          first-inside _ _ _ _ (c .before .before .before .first-places .ensures) k (omega (arith, s .pre .0 .change-length)),
+          inside-first _ _ _ _ (c .before .before .before .first-places .ensures) k (omega (arith, s .pre .0 .change-length)),
           s .pre .0 .valid .b-low,
         ),
       ),

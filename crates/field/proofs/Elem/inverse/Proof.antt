@@ -1,7 +1,5 @@
 -- The inverse of 0 is 0; else the element is a power of 02, and the exponents of the two make 255. Assumes nothing.
-use mathlib.Core.Path.{refl, sym, subst}
-use Prim.Native.Nat.{ℕ}
-use native.Mathlib.Omega.{arith}
+use mathlib.Core.Path.{sym, subst}
 use borrow.Author.Needs.{needs}
 use Rattle.field.specs.Field.{Inverse}
 use Rattle.field.proofs.Exponents.{inverse-by-exponent}

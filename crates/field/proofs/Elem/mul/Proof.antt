@@ -1,8 +1,8 @@
 -- A factor 0 gives 0; else both are powers of 02, and the exponents add up. Assumes nothing.
 use mathlib.Core.Path.{ap, sym, _∙_}
-use Prim.Native.Nat.{ℕ, _+_, _%_}
+use Prim.Native.Nat.{ℕ}
 use borrow.Author.Needs.{needs}
-use Rattle.field.specs.Field.{mul, pow}
+use Rattle.field.specs.Field.{mul}
 use Rattle.field.proofs.Multiplication.{mul-zero-left, mul-zero-right}
 use Rattle.field.proofs.Exponents.{mul-by-exponents}
 use Rattle.field.proofs.Elem.mul.Statement.{statement}
