@@ -7,9 +7,10 @@ use Prim.Native.Nat.{ℕ}
 use Rattle.params.specs.Nodes.{has}
 use Rattle.params.specs.declared.Params.{Params}
 use Rattle.params.specs.declared.Shape.{Shape}
+use Rattle.code.specs.declared.Verdict.{Verdict}
 use Rattle.code.specs.Code.{Gives}
-use Rattle.code.specs.Calls.{Post, EncodePost, DecodePost, DeltaPost, UpdatePost, RepairPost, ReconfigurePost}
-use Rattle.code.proofs.Determined.{Once, encode-once, decode-once, delta-once, update-once, repair-once, reconfigure-once}
+use Rattle.code.specs.Calls.{Post, EncodePost, DecodePost, DeltaPost, UpdatePost, RepairPost, ReconfigurePost, CheckPost, ViewPost, number, nodeNumber}
+use Rattle.code.proofs.Determined.{Once, encode-once, decode-once, delta-once, update-once, repair-once, reconfigure-once, check-once, view-once}
 use Rattle.ledger.specs.Ledger.{Held, Machine, Event, History, Reading}
 use Rattle.ledger.proofs.Demand3 as D3
 
@@ -19,8 +20,8 @@ pub demand-1 : {gate answer : ℕ} {old new : List ℕ} {Served : Type 0} → Po
     → (answer ≡ gate) × ((answer ≡ 0 → ⊥) → new ≡ old)
 demand-1 post = (post .number, post .refused)
 
--- 2. "Every block, view, reading, difference, .. rebuilt block and rearranged record is what .. document 01 fixes": a call's answer and every byte of its
--- buffer are settled by its post-condition, which only one answer and one list of bytes satisfy.
+-- 2. "Every block, view, reading, difference, check, .. rebuilt block and rearranged record is what .. document 01 fixes": a call's answer and every byte of its
+-- buffer are settled by its post-condition, which only one answer and one list of bytes satisfy. (The matrix inverse: matrix/proofs/Laws.antt.)
 pub record Demand2 : Type 0 where
   pub set-up : (a : Params) (message slack old : List ℕ) → Once (EncodePost a message slack old)
   pub reading : (a : Params) (codeword : List ℕ) (from : ℕ) (old : List ℕ) → Once (DecodePost a codeword from old)
@@ -29,6 +30,10 @@ pub record Demand2 : Type 0 where
   pub rebuild : (a : Params) (from lost : ℕ) (old : List ℕ) → Once (RepairPost a from lost old)
   pub rearrangement : (a : Params) (t : Shape) (codeword : List ℕ) (from to : ℕ) (message old : List ℕ)
       → Once (ReconfigurePost a t codeword from to message old)
+  pub check : (a : Params) (codeword : List ℕ) (answer answer′ : Verdict) → CheckPost a codeword answer → CheckPost a codeword answer′
+      → (number answer ≡ number answer′) × (nodeNumber answer ≡ nodeNumber answer′)
+  pub view : (a : Params) (codeword : List ℕ) (node : ℕ) (part part′ : List ℕ) → ViewPost a codeword node part → ViewPost a codeword node part′
+      → part ≡ part′
 
 pub demand-2 : Demand2
 demand-2 =
@@ -39,6 +44,8 @@ demand-2 =
       change = update-once;
       rebuild = repair-once;
       rearrangement = reconfigure-once;
+      check = check-once;
+      view = view-once;
     }
 
 -- 3. For every list that document 01 allows (History: it opens with an accepted set-up; accepted rebuilds and rearrangements read undamaged nodes) and every
