@@ -3,3 +3,4 @@ pub mod Test
 pub mod Seq
 pub mod Filled
 pub mod Parts
+pub mod Questions

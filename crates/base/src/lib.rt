@@ -1,1 +1,17 @@
-// No code: definitions and lemmas that the crates above share (questions at the gate, lists by their entries, computed tests).
+// What the crates above share: definitions and lemmas (questions at the gate, lists by their entries, computed tests), and one test on lengths.
+ghost use mathlib.Core.Path.{_≡_};
+ghost use Prim.Native.Nat.{_*_};
+ghost use lib.Dec.{eqb};
+
+// Whether length = count · size, for numbers of any size.
+pub fn is_product(length: usize, count: usize, size: usize) -> bool
+    ensures { λ r. ⌜ r ≡ eqb length (count * size) ⌝ }
+{
+    if size == 0 {
+        return length == 0;
+    }
+    if length / size != count {
+        return false;
+    }
+    length % size == 0
+}

@@ -15,14 +15,14 @@ use Rattle.base.proofs.Seq.{cell-blocks, length-blocks, cells-ext}
 use Rattle.field.specs.Field.{Bytes, add}
 use Rattle.params.specs.Nodes.{has, count, nodes}
 use Rattle.params.specs.Params.{working, reshaped}
-use Rattle.params.specs.Gates.{checkGate, viewGate}
-use Rattle.params.specs.Valid.{Valid, DeltaAccepted}
+use Rattle.gates.specs.Gates.{checkGate, viewGate}
+use Rattle.gates.specs.Valid.{Valid, DeltaAccepted}
 use Rattle.params.specs.declared.Params.{Params}
 use Rattle.params.specs.declared.Shape.{Shape}
 use Rattle.params.proofs.Sets.{rank-lt, node-at-rank, entry, within-size}
-use Rattle.params.proofs.Valid.{encode-accepted, check-accepted, decode-accepted, delta-accepted, update-accepted, repair-accepted, reconfigure-accepted}
+use Rattle.gates.proofs.Valid.{encode-accepted, check-accepted, decode-accepted, delta-accepted, update-accepted, repair-accepted, reconfigure-accepted}
 use Rattle.code.specs.Code.{block, upTo}
-use Rattle.code.specs.Calls.{Post, Encoded, EncodePost, Decoded, DecodePost, Differences, DeltaPost, Updated, UpdatePost, Repaired, RepairPost, writes, Reconfigured, ReconfigurePost, number, nodeNumber, Same, Checked, CheckPost, ViewPost}
+use Rattle.code.specs.Calls.{Post, Encoded, EncodePost, Decoded, DecodePost, Differences, DeltaPost, Updated, UpdatePost, Repaired, RepairPost, writes, Reconfigured, ReconfigurePost, number, nodeNumber, Proper, Same, Checked, CheckPost, ViewPost}
 use Rattle.code.specs.declared.Verdict.{Verdict}
 use Rattle.code.specs.declared.Verdict.the-variants.{Refused, Agrees, Differs}
 use Rattle.code.proofs.Pairs.{slack-exists, slack-unique, written-leaves, spread-exists, spread-unique, pair-exists, pair-unique, pair-blocks, from-reads, first-reads}
@@ -271,8 +271,21 @@ same-dec a x v codeword j =
     ⊎-elim (λ all. yes all) (λ f. no (λ s. f .2 (s (f .0) (f .1))))
     (all-below (λ p. block a x v (suc j) p ≡ cell (a .b) codeword j p) (λ p. ℕ-discrete _ _) (a .b))
 
+-- a verdict is known by its numbers
+same-verdict : (v v′ : Verdict) → Proper v → Proper v′ → number v ≡ number v′ → nodeNumber v ≡ nodeNumber v′ → v ≡ v′
+same-verdict (Refused q) (Refused q′) h h′ n i = ap Refused n
+same-verdict (Refused q) Agrees h h′ n i = absurd (h n)
+same-verdict (Refused q) (Differs d) h h′ n i = absurd (h n)
+same-verdict Agrees (Refused q) h h′ n i = absurd (h′ (sym n))
+same-verdict Agrees Agrees h h′ n i = refl
+same-verdict Agrees (Differs d) h h′ n i = absurd (h′ (sym i))
+same-verdict (Differs d) (Refused q) h h′ n i = absurd (h′ (sym n))
+same-verdict (Differs d) Agrees h h′ n i = absurd (h i)
+same-verdict (Differs d) (Differs d′) h h′ n i = ap (λ (j : ℕ). Differs (record { 0 = j })) i
+
 module _ (a : Params) (codeword : List ℕ) where
-  checked-exists : Valid a → Bytes codeword → (answer : Verdict) × (number answer ≡ 0) × Checked a codeword (nodeNumber answer)
+  checked-exists : Valid a → Bytes codeword
+      → (answer : Verdict) × (number answer ≡ 0) × Checked a codeword (nodeNumber answer) × Proper answer
   checked-exists ok bytes =
       let e = pair-exists a ok (upTo (working a)) (first-reads a ok) codeword bytes in
       ⊎-elim
@@ -280,6 +293,7 @@ module _ (a : Params) (codeword : List ℕ) where
         Agrees,
         refl,
         record { message = e .0; slack = e .1; gives = e .2; sound = λ z j hj. all j hj; lowest = λ j z. absurd (omega arith) },
+        tt,
       ))
       (λ f. (
         Differs (record { 0 = suc (f .0) }),
@@ -293,6 +307,7 @@ module _ (a : Params) (codeword : List ℕ) where
               subst (λ (j : ℕ). (j < a .n) × (Same a (e .0) (e .1) codeword j → ⊥) × ((i : ℕ) → i < j → Same a (e .0) (e .1) codeword i)) (omega arith)
               (f .1, f .2, f .3);
         },
+        λ z. omega arith,
       ))
       (all-below (Same a (e .0) (e .1) codeword) (same-dec a (e .0) (e .1) codeword) (a .n))
 
@@ -301,10 +316,10 @@ module _ (a : Params) (codeword : List ℕ) where
       ⊎-elim
       (λ z.
       let c = checked-exists (check-accepted a _ .0 z .valid) bytes in
-      (c .0, record { number = c .1 ∙ sym z; served = λ _. c .2; refused = λ ne. absurd (ne (c .1)) }))
+      (c .0, (record { number = c .1 ∙ sym z; served = λ _. c .2; refused = λ ne. absurd (ne (c .1)) }, c .3)))
       (λ ne. (
         Refused (checkGate a (length codeword)),
-        record { number = refl; served = λ z. absurd (ne z); refused = λ _. refl },
+        (record { number = refl; served = λ z. absurd (ne z); refused = λ _. refl }, ne),
       ))
       (eq-or (checkGate a (length codeword)) 0)
 
@@ -331,12 +346,10 @@ module _ (a : Params) (codeword : List ℕ) where
           ⊎-elim (λ h. absurd (l .1 (here i (l′ .2 i h))))
           (λ h. ⊎-elim (λ h′. absurd (l′ .1 (there j (l .2 j h′)))) (λ h′. omega arith) (lt-or j i)) (lt-or i j)
 
-  pub check-once : (answer answer′ : Verdict) → CheckPost a codeword answer → CheckPost a codeword answer′
-      → (number answer ≡ number answer′) × (nodeNumber answer ≡ nodeNumber answer′)
-  check-once answer answer′ t t′ = (
-    t .number ∙ sym (t′ .number),
-    alike (λ z. checked-once (check-accepted a _ .0 z .valid) (nodeNumber answer) (nodeNumber answer′)) (λ e e′. e ∙ sym e′) t t′,
-  )
+  pub check-once : (answer answer′ : Verdict) → CheckPost a codeword answer → CheckPost a codeword answer′ → answer ≡ answer′
+  check-once answer answer′ t t′ =
+      same-verdict answer answer′ (t .1) (t′ .1) (t .0 .number ∙ sym (t′ .0 .number))
+      (alike (λ z. checked-once (check-accepted a _ .0 z .valid) (nodeNumber answer) (nodeNumber answer′)) (λ e e′. e ∙ sym e′) (t .0) (t′ .0))
 
 -- ---- view: its number is the gate's by definition
 

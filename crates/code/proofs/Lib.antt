@@ -2,3 +2,4 @@ pub mod Pairs
 pub mod Additivity
 pub mod Theorems
 pub mod Determined
+pub mod Posts

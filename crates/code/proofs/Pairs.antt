@@ -17,10 +17,10 @@ use Rattle.interpolation.proofs.Completion.{completion-exists, completion-uniqu
 use Rattle.interpolation.proofs.Parts.{parts-exist, parts-unique}
 use Rattle.params.specs.Nodes.{has, size, within, count, nodes}
 use Rattle.params.specs.Params.{slackParts, working}
-use Rattle.params.specs.Valid.{Valid}
+use Rattle.gates.specs.Valid.{Valid}
 use Rattle.params.specs.declared.Params.{Params}
 use Rattle.params.proofs.Sets.{length-nodes, rank-lt, node-at-rank, entry, distinct, count-not, count-range, within-size}
-use Rattle.params.proofs.Valid.{working-is, working-le, slack-add}
+use Rattle.gates.proofs.Valid.{working-is, working-le, slack-add}
 use Rattle.code.specs.Code.{point, Parts, block, Gives, upTo}
 use Rattle.code.specs.Calls.{Vanishes}
 

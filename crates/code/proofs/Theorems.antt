@@ -5,9 +5,9 @@ use mathlib.Core.List.{List}
 use Prim.Native.Nat.{ℕ}
 use lib.ListN.{length}
 use Rattle.params.specs.Nodes.{has, size, within}
-use Rattle.params.specs.Valid.{Valid}
+use Rattle.gates.specs.Valid.{Valid}
 use Rattle.params.specs.declared.Params.{Params}
-use Rattle.params.proofs.Valid.{decode-accepted}
+use Rattle.gates.proofs.Valid.{decode-accepted}
 use Rattle.code.specs.Code.{Pair, Gives}
 use Rattle.code.specs.Calls.{Encoded, Decoded, DecodePost}
 use Rattle.code.proofs.Pairs.{from-reads, pair-unique}

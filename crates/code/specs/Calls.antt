@@ -10,7 +10,7 @@ use Rattle.base.specs.Seq.{cell}
 use Rattle.field.specs.Field.{add}
 use Rattle.params.specs.Nodes.{has, count}
 use Rattle.params.specs.Params.{slackParts, working, reshaped}
-use Rattle.params.specs.Gates.{encodeGate, decodeGate, deltaGate, updateGate, repairGate, checkGate, viewGate, reconfigureGate}
+use Rattle.gates.specs.Gates.{encodeGate, decodeGate, deltaGate, updateGate, repairGate, checkGate, viewGate, reconfigureGate}
 use Rattle.params.specs.declared.Params.{Params}
 use Rattle.params.specs.declared.Shape.{Shape}
 use Rattle.code.specs.Code.{Parts, block, Pair, Gives, upTo}
@@ -18,10 +18,10 @@ use Rattle.code.specs.declared.Verdict.{Verdict}
 use Rattle.code.specs.declared.Verdict.the-variants.{Refused, Agrees, Differs}
 
 -- A call answers its gate's number; with 0 it is served, with any other it is refused.
-pub record Post (gate answer : ℕ) (Served Refused : Type 0) : Type 0 where
+pub record Post (gate answer : ℕ) (WhenServed WhenRefused : Type 0) : Type 0 where
   pub number : answer ≡ gate
-  pub served : answer ≡ 0 → Served
-  pub refused : (answer ≡ 0 → ⊥) → Refused
+  pub served : answer ≡ 0 → WhenServed
+  pub refused : (answer ≡ 0 → ⊥) → WhenRefused
 
 -- ---- "Set-up: message and slack in, record written."
 
@@ -127,6 +127,12 @@ nodeNumber (Refused q) = 0
 nodeNumber Agrees = 0
 nodeNumber (Differs i) = i .0
 
+-- A number has one case: a refusal's is not 0, and `Differs` names a node.
+abbrev pub Proper : Verdict → Type 0
+Proper (Refused q) = q ≡ 0 → ⊥
+Proper Agrees = Unit {0}
+Proper (Differs i) = i .0 ≡ 0 → ⊥
+
 -- node suc j's block is the pair's
 abbrev pub Same : Params → List ℕ → List ℕ → List ℕ → ℕ → Type 0
 Same a x v codeword j = (p : ℕ) → p < a .b → block a x v (suc j) p ≡ cell (a .b) codeword j p
@@ -141,7 +147,7 @@ pub record Checked (a : Params) (codeword : List ℕ) (node : ℕ) : Type 0 wher
 
 abbrev pub CheckPost : Params → List ℕ → Verdict → Type 0
 CheckPost a codeword answer =
-    Post (checkGate a (length codeword)) (number answer) (Checked a codeword (nodeNumber answer)) (nodeNumber answer ≡ 0)
+    Post (checkGate a (length codeword)) (number answer) (Checked a codeword (nodeNumber answer)) (nodeNumber answer ≡ 0) × Proper answer
 
 -- ---- "View: the part of the record that is trap i's block, returned as a part of the lent record. A refused view is a part of length 0. The view returns
 -- the part alone; a second call on the same arguments gives its gate number."

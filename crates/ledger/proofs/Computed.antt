@@ -14,7 +14,7 @@ use Rattle.base.proofs.Test.{both, both-left, both-right, allBelow, below}
 use Rattle.field.specs.Field.{IsByte, Bytes, add}
 use Rattle.params.specs.Nodes.{has, count}
 use Rattle.params.specs.Params.{slackParts, working, reshaped}
-use Rattle.params.specs.Gates.{encodeGate, decodeGate, deltaGate, updateGate, repairGate, reconfigureGate, checkGate}
+use Rattle.gates.specs.Gates.{encodeGate, decodeGate, deltaGate, updateGate, repairGate, reconfigureGate, checkGate}
 use Rattle.params.specs.declared.Params.{Params}
 use Rattle.params.specs.declared.Shape.{Shape}
 use Rattle.params.proofs.Sets.{has-le}
@@ -219,16 +219,18 @@ module _ (a : Params) (codeword message slack : List ℕ) where
 
   pub check-by : T (conj check?) → CheckPost a codeword Agrees
   check-by h =
-      let t = each check? h in
-      accepted (checkGate a) codeword codeword refl (t .0)
-      (record {
-        message = message;
-        slack = slack;
-        gives = gives a message slack (upTo (working a)) codeword (t .1 .0);
-        sound = λ z j hj p.
-            same (a .n) (a .b) (λ i. true) (λ j. block a message slack (suc j)) (cell (a .b) codeword) (t .1 .1 .0) j p hj refl;
-        lowest = λ j z. absurd (omega arith);
-      })
+      let t = each check? h in (
+        accepted (checkGate a) codeword codeword refl (t .0)
+            (record {
+              message = message;
+              slack = slack;
+              gives = gives a message slack (upTo (working a)) codeword (t .1 .0);
+              sound = λ z j hj p.
+                  same (a .n) (a .b) (λ i. true) (λ j. block a message slack (suc j)) (cell (a .b) codeword) (t .1 .1 .0) j p hj refl;
+              lowest = λ j z. absurd (omega arith);
+            }),
+        tt,
+      )
 
 -- ---- sets without damaged nodes
 

@@ -6,7 +6,7 @@ use mathlib.Core.List.{List}
 use Prim.Native.Nat.{ℕ}
 use lib.ListN.{length}
 use Rattle.params.specs.Nodes.{has}
-use Rattle.params.proofs.Valid.{decode-accepted}
+use Rattle.gates.proofs.Valid.{decode-accepted}
 use Rattle.code.specs.Code.{Gives}
 use Rattle.code.proofs.Theorems.{decode-message, decode-one}
 use Rattle.ledger.specs.Ledger.{Held, Machine, Event, History, Reading}

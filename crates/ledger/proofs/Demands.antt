@@ -1,27 +1,69 @@
--- The customer's three demands on one page. Demands 1 and 2 are the contracts of the calls (crate calls, src/): each exported function is proved to meet the
--- post-condition named here, for all arguments. This page says what such a post-condition settles, and states demand 3. Assumes nothing.
+-- The customer's three demands on one page. Demands 1 and 2 are the contracts of the calls (crates access, maintenance and matrix, src/): each is proved to
+-- meet the post-condition named here, for all arguments (view_status answers viewGate). This page says what such a post-condition settles, and states demand 3. Assumes nothing.
 use mathlib.Core.Path.{_≡_}
-use mathlib.Core.List.{List}
+use mathlib.Core.List.{List, [], _∷_}
 use mathlib.Core.Logic.{_↔_}
 use Prim.Native.Nat.{ℕ}
+use lib.ListN.{length}
+use Rattle.base.specs.Gate.{firstNo}
+use Rattle.matrix.specs.Invert.{InvertPost, sideAsked, lengthsAsked, inverseAsked, number as invertNumber}
+use Rattle.matrix.specs.declared.Inversion.{Inversion}
+use Rattle.matrix.proofs.Laws.{invert-once}
 use Rattle.params.specs.Nodes.{has}
 use Rattle.params.specs.declared.Params.{Params}
 use Rattle.params.specs.declared.Shape.{Shape}
+use Rattle.gates.specs.Gates.{encodeGate, decodeGate, deltaGate, updateGate, repairGate, checkGate, viewGate, reconfigureGate}
 use Rattle.code.specs.declared.Verdict.{Verdict}
 use Rattle.code.specs.Code.{Gives}
-use Rattle.code.specs.Calls.{Post, EncodePost, DecodePost, DeltaPost, UpdatePost, RepairPost, ReconfigurePost, CheckPost, ViewPost, number, nodeNumber}
+use Rattle.code.specs.Calls.{Post, EncodePost, DecodePost, DeltaPost, UpdatePost, RepairPost, ReconfigurePost, CheckPost, ViewPost, number}
 use Rattle.code.proofs.Determined.{Once, encode-once, decode-once, delta-once, update-once, repair-once, reconfigure-once, check-once, view-once}
 use Rattle.ledger.specs.Ledger.{Held, Machine, Event, History, Reading}
 use Rattle.ledger.proofs.Demand3 as D3
 
 -- 1. "Where it can't be served it returns the number of the first question in document 01 whose answer is no, and no byte is written." The answer is the
--- gate's number, the first no of the call's list of questions (params/specs/Gates.antt), and a refused call's buffer is as it was.
-pub demand-1 : {gate answer : ℕ} {old new : List ℕ} {Served : Type 0} → Post gate answer Served (new ≡ old)
-    → (answer ≡ gate) × ((answer ≡ 0 → ⊥) → new ≡ old)
-demand-1 post = (post .number, post .refused)
+-- gate's number, the first no of the call's list of questions (gates/specs/Gates.antt), and a refused call's buffer is as it was.
+abbrev pub Told : ℕ → ℕ → List ℕ → List ℕ → Type 0
+Told gate answer old new = (answer ≡ gate) × ((answer ≡ 0 → ⊥) → new ≡ old)
+
+pub record Demand1 : Type 0 where
+  pub set-up : {a : Params} {message slack old new : List ℕ} {answer : ℕ} → EncodePost a message slack old answer new
+      → Told (encodeGate a (length message) (length slack) (length old)) answer old new
+  pub reading : {a : Params} {codeword old new : List ℕ} {from answer : ℕ} → DecodePost a codeword from old answer new
+      → Told (decodeGate a (length codeword) (length old) from) answer old new
+  pub difference : {a : Params} {d old new : List ℕ} {to answer : ℕ} → DeltaPost a d to old answer new
+      → Told (deltaGate a (length d) (length old) to) answer old new
+  pub change : {a : Params} {d old new : List ℕ} {to answer : ℕ} → UpdatePost a d to old answer new
+      → Told (updateGate a (length old) (length d) to) answer old new
+  pub rebuild : {a : Params} {old new : List ℕ} {from lost answer : ℕ} → RepairPost a from lost old answer new
+      → Told (repairGate a (length old) from lost) answer old new
+  pub rearrangement : {a : Params} {t : Shape} {codeword message old new : List ℕ} {from to answer : ℕ}
+      → ReconfigurePost a t codeword from to message old answer new
+      → Told (reconfigureGate a t (length codeword) (length old) (length message) from to) answer old new
+  pub check : {a : Params} {codeword : List ℕ} (answer : Verdict) → CheckPost a codeword answer → number answer ≡ checkGate a (length codeword)
+  pub view : (a : Params) (codeword part : List ℕ) (node : ℕ) → ViewPost a codeword node part → (viewGate a (length codeword) node ≡ 0 → ⊥)
+      → part ≡ []
+  pub inverse : (s : ℕ) (m old new : List ℕ) (answer : Inversion) (post : InvertPost s m old answer new)
+      → Told (firstNo (sideAsked s ∷ lengthsAsked s m old ∷ inverseAsked (post .hasInverse) ∷ [])) (invertNumber answer) old new
+
+pub demand-1 : Demand1
+demand-1 =
+    record {
+      set-up = told;
+      reading = told;
+      difference = told;
+      change = told;
+      rebuild = told;
+      rearrangement = told;
+      check = λ answer post. post .0 .number;
+      view = λ a codeword part node post. post .refused;
+      inverse = λ s m old new answer post. (post .first, post .refused);
+    }
+  where
+    told : {gate answer : ℕ} {old new : List ℕ} {Served : Type 0} → Post gate answer Served (new ≡ old) → Told gate answer old new
+    told post = (post .number, post .refused)
 
 -- 2. "Every block, view, reading, difference, check, .. rebuilt block and rearranged record is what .. document 01 fixes": a call's answer and every byte of its
--- buffer are settled by its post-condition, which only one answer and one list of bytes satisfy. (The matrix inverse: matrix/proofs/Laws.antt.)
+-- buffer are settled by its post-condition, which only one answer and one list of bytes satisfy.
 pub record Demand2 : Type 0 where
   pub set-up : (a : Params) (message slack old : List ℕ) → Once (EncodePost a message slack old)
   pub reading : (a : Params) (codeword : List ℕ) (from : ℕ) (old : List ℕ) → Once (DecodePost a codeword from old)
@@ -31,9 +73,11 @@ pub record Demand2 : Type 0 where
   pub rearrangement : (a : Params) (t : Shape) (codeword : List ℕ) (from to : ℕ) (message old : List ℕ)
       → Once (ReconfigurePost a t codeword from to message old)
   pub check : (a : Params) (codeword : List ℕ) (answer answer′ : Verdict) → CheckPost a codeword answer → CheckPost a codeword answer′
-      → (number answer ≡ number answer′) × (nodeNumber answer ≡ nodeNumber answer′)
+      → answer ≡ answer′
   pub view : (a : Params) (codeword : List ℕ) (node : ℕ) (part part′ : List ℕ) → ViewPost a codeword node part → ViewPost a codeword node part′
       → part ≡ part′
+  pub inverse : (s : ℕ) (m old : List ℕ) (answer answer′ : Inversion) (new new′ : List ℕ) → InvertPost s m old answer new
+      → InvertPost s m old answer′ new′ → (invertNumber answer ≡ invertNumber answer′) × (new ≡ new′)
 
 pub demand-2 : Demand2
 demand-2 =
@@ -46,6 +90,7 @@ demand-2 =
       rearrangement = reconfigure-once;
       check = check-once;
       view = view-once;
+      inverse = invert-once;
     }
 
 -- 3. For every list that document 01 allows (History: it opens with an accepted set-up; accepted rebuilds and rearrangements read undamaged nodes) and every

@@ -13,7 +13,7 @@ use Rattle.field.specs.FiniteSum.{sum}
 use Rattle.interpolation.specs.Polynomial.{evaluate}
 use Rattle.params.specs.Nodes.{has, size, within, disjoint, count}
 use Rattle.params.specs.Params.{slackParts, working}
-use Rattle.params.specs.Gates.{encodeGate, decodeGate, deltaGate, updateGate, repairGate, reconfigureGate, checkGate, viewGate, damageGate}
+use Rattle.gates.specs.Gates.{encodeGate, decodeGate, deltaGate, updateGate, repairGate, reconfigureGate, checkGate, viewGate, damageGate}
 use Rattle.code.specs.Code.{point, block}
 use Rattle.code.specs.Calls.{Post}
 use Rattle.code.specs.declared.Verdict.the-variants.{Agrees}

@@ -12,7 +12,7 @@ use Rattle.field.specs.FiniteSum.{sum}
 use Rattle.interpolation.specs.Polynomial.{evaluate}
 use Rattle.params.specs.Nodes.{has, size, within, disjoint, count}
 use Rattle.params.specs.Params.{slackParts}
-use Rattle.params.specs.Gates.{encodeGate, decodeGate, deltaGate, updateGate, repairGate, reconfigureGate}
+use Rattle.gates.specs.Gates.{encodeGate, decodeGate, deltaGate, updateGate, repairGate, reconfigureGate}
 use Rattle.params.specs.declared.Params.{Params}
 use Rattle.params.specs.declared.Shape.{Shape}
 use Rattle.code.specs.Code.{point, block}

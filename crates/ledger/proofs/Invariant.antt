@@ -14,10 +14,10 @@ use Rattle.field.specs.Field.{Bytes, add}
 use Rattle.field.proofs.Addition.{add-zero-right}
 use Rattle.params.specs.Nodes.{has}
 use Rattle.params.specs.Params.{reshaped}
-use Rattle.params.specs.Valid.{Valid, ReconfigureAccepted}
+use Rattle.gates.specs.Valid.{Valid, ReconfigureAccepted}
 use Rattle.params.specs.declared.Params.{Params}
 use Rattle.params.specs.declared.Shape.{Shape}
-use Rattle.params.proofs.Valid.{encode-accepted, update-accepted, repair-accepted, reconfigure-accepted}
+use Rattle.gates.proofs.Valid.{encode-accepted, update-accepted, repair-accepted, reconfigure-accepted}
 use Rattle.code.specs.Code.{block, Pair, Gives}
 use Rattle.code.specs.Calls.{EncodePost, Updated, Repaired, Reconfigured}
 use Rattle.code.proofs.Pairs.{Reads, from-reads, pair-blocks}

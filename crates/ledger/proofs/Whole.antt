@@ -17,11 +17,11 @@ use Rattle.field.proofs.Addition.{add-byte}
 use Rattle.interpolation.proofs.Rows.{bytes-blocks, cell-byte}
 use Rattle.params.specs.Nodes.{has}
 use Rattle.params.specs.Params.{reshaped}
-use Rattle.params.specs.Gates.{decodeGate, damageGate}
-use Rattle.params.specs.Valid.{Valid}
+use Rattle.gates.specs.Gates.{decodeGate, damageGate}
+use Rattle.gates.specs.Valid.{Valid}
 use Rattle.params.specs.declared.Params.{Params}
 use Rattle.params.specs.declared.Shape.{Shape}
-use Rattle.params.proofs.Valid.{encode-accepted, update-accepted, repair-accepted, reconfigure-accepted}
+use Rattle.gates.proofs.Valid.{encode-accepted, update-accepted, repair-accepted, reconfigure-accepted}
 use Rattle.code.specs.Calls.{Post, EncodePost, DecodePost, UpdatePost, RepairPost, ReconfigurePost, writes}
 use Rattle.code.proofs.Additivity.{block-byte}
 use Rattle.code.proofs.Determined.{encode-met, encode-once, decode-met, delta-met, update-met, update-once, repair-met, repair-once, reconfigure-met, reconfigure-once, check-met, view-met}

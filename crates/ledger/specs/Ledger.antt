@@ -10,7 +10,7 @@ use Rattle.base.specs.Seq.{tabulate, cell, blocks}
 use Rattle.field.specs.Field.{Bytes, add}
 use Rattle.params.specs.Nodes.{has}
 use Rattle.params.specs.Params.{reshaped}
-use Rattle.params.specs.Gates.{encodeGate, decodeGate, deltaGate, updateGate, repairGate, checkGate, viewGate, reconfigureGate, damageGate}
+use Rattle.gates.specs.Gates.{encodeGate, decodeGate, deltaGate, updateGate, repairGate, checkGate, viewGate, reconfigureGate, damageGate}
 use Rattle.params.specs.declared.Params.{Params}
 use Rattle.params.specs.declared.Shape.{Shape}
 use Rattle.code.specs.Calls.{EncodePost, DecodePost, DeltaPost, UpdatePost, RepairPost, CheckPost, ViewPost, ReconfigurePost}
@@ -120,10 +120,13 @@ pub data Step (h : Held) : Event → Held → Type 0 where
 unfoldable pub ledgerPlus : List ℕ → List ℕ → List ℕ
 ledgerPlus x d = tabulate (length x) (λ i. add (getD x i 0) (getD d i 0))
 
+-- "An accepted set-up puts its arrangement in force and the message in the ledger and empties the set."
+abbrev pub opened : Params → List ℕ → Machine
+opened a x = record { params = a; ledger = x; damaged = λ i. false }
+
 -- The accepted event's effect, sentence by sentence; every other call alters nothing.
 abbrev pub effect : Machine → Event → Machine
--- "An accepted set-up puts its arrangement in force and the message in the ledger and empties the set."
-effect m (encode a x v l) = record { params = a; ledger = x; damaged = λ i. false }
+effect m (encode a x v l) = opened a x
 -- "An accepted change adds its d to the ledger, .. also where W holds damaged traps; the set stays."
 effect m (update a l d to) = record { params = m .params; ledger = ledgerPlus (m .ledger) d; damaged = m .damaged }
 -- "An accepted rebuild takes L out of the set."
@@ -194,7 +197,7 @@ pub record History (events : List Event) (h : Held) (m : Machine) : Type 0 where
   pub codeword : List ℕ
   pub typed : Bytes message × Bytes slack × Bytes buffer
   pub opening : EncodePost params message slack buffer 0 codeword
-  pub run : Run (record { params = params; codeword = codeword }) (record { params = params; ledger = message; damaged = λ i. false }) events h m
+  pub run : Run (record { params = params; codeword = codeword }) (opened params message) events h m
 
 -- "An accepted reading after the list, through r undamaged traps": given the parameters and the record that the list left, a set R without damaged nodes,
 -- and a buffer with any bytes.

@@ -24,6 +24,7 @@ refused s q m old first some other =
       refused = λ ne. refl;
       dependent = λ e. absurd (other e);
       noColumn = λ ne. refl;
+      proper = (some, other);
     }
 
 pub refused-side : (s : ℕ) (m old : List ℕ) → (leb 1 s && leb s 32) ≡ false → InvertPost s m old (Refused 16) old
@@ -48,6 +49,7 @@ module _ (s : ℕ) (m old : List ℕ) (o : Open s m old) where
         refused = λ ne. absurd (ne refl);
         dependent = λ e. absurd (omega arith);
         noColumn = λ ne. refl;
+        proper = tt;
       }
 
   pub answered-singular : (c : ℕ) → Singular s m → Dependent s m c → InvertPost s m old (SingularAt c) old
@@ -61,4 +63,5 @@ module _ (s : ℕ) (m old : List ℕ) (o : Open s m old) where
         refused = λ ne. refl;
         dependent = λ e. d;
         noColumn = λ ne. absurd (ne refl);
+        proper = tt;
       }

@@ -2,7 +2,7 @@
 -- what it takes vectors to, is known by its entries. Assumes nothing.
 use mathlib.Core.Path.{_≡_, refl, sym, ap, ap₂, _∙_, subst}
 use mathlib.Core.Bool.{Bool, true, false}
-use mathlib.Core.List.{List, [], _∷_}
+use mathlib.Core.List.{List, [], _∷_, _++_}
 use mathlib.Core.Logic.{⊎-elim}
 use Prim.Native.Nat.{ℕ, zero, suc, _+_, _*_, _≤_, _<_}
 use native.Mathlib.Nat.{zero-lt-suc}
@@ -12,7 +12,8 @@ use lib.Seq.{ext-getD}
 use borrow.Author.Tests.{le-leb, eq-eqb}
 use Rattle.base.specs.Gate.{Question, firstNo}
 use Rattle.base.specs.Seq.{tabulate, cell}
-use Rattle.base.proofs.Cases.{lt-or}
+use Rattle.base.proofs.Cases.{lt-or, eq-or}
+use Rattle.base.proofs.Questions.{first, stopped}
 use Rattle.base.proofs.Seq.{length-tabulate, getD-tabulate, length-blocks, cell-blocks, cells-ext}
 use Rattle.field.specs.Field.{IsByte, Bytes, add, mul}
 use Rattle.field.specs.FiniteSum.{sum}
@@ -248,3 +249,38 @@ accepted s m old new answer post o only = go (post .hasInverse) refl
         (none, post .served none)
     go false e =
         let g = post .asked (gate-open s m old [] o) .0 e in absurd (g .nonzero (only (g .vector) (g .sized) (g .taken)))
+
+-- ---- the post-condition settles the answer's number and every byte of the buffer
+
+same-answer : (b b′ : Bool) → (b ≡ false → b′ ≡ false) → (b′ ≡ false → b ≡ false) → b ≡ b′
+same-answer true true f g = refl
+same-answer false b′ f g = sym (f refl)
+same-answer true false f g = g refl
+
+pub invert-once : (s : ℕ) (m old : List ℕ) (answer answer′ : Inversion) (new new′ : List ℕ) → InvertPost s m old answer new
+    → InvertPost s m old answer′ new′ → (number answer ≡ number answer′) × (new ≡ new′)
+invert-once s m old answer answer′ new new′ post post′ = (numbers, ⊎-elim both-served both-refused (eq-or (number answer) 0))
+  where
+    front : List Question
+    front = sideAsked s ∷ lengthsAsked s m old ∷ []
+
+    asked-alike : firstNo front ≡ 0 → post .hasInverse ≡ post′ .hasInverse
+    asked-alike z =
+        same-answer (post .hasInverse) (post′ .hasInverse) (λ e. post′ .asked z .1 (post .asked z .0 e)) (λ e. post .asked z .1 (post′ .asked z .0 e))
+
+    stays : (firstNo front ≡ 0 → ⊥) → (b b′ : Bool) → firstNo (front ++ inverseAsked b ∷ []) ≡ firstNo (front ++ inverseAsked b′ ∷ [])
+    stays ne b b′ =
+        sym (first (front ++ inverseAsked b ∷ []) (stopped front (inverseAsked b ∷ []) refl ne))
+        ∙ first (front ++ inverseAsked b′ ∷ []) (stopped front (inverseAsked b′ ∷ []) refl ne)
+
+    numbers : number answer ≡ number answer′
+    numbers =
+        post .first
+        ∙ ⊎-elim (λ z. ap (λ (b : Bool). firstNo (front ++ inverseAsked b ∷ [])) (asked-alike z)) (λ ne. stays ne (post .hasInverse) (post′ .hasInverse)) (eq-or (firstNo front) 0)
+        ∙ sym (post′ .first)
+
+    both-served : number answer ≡ 0 → new ≡ new′
+    both-served z = inverse-unique s m new new′ (post .served z) (post′ .served (sym numbers ∙ z))
+
+    both-refused : (number answer ≡ 0 → ⊥) → new ≡ new′
+    both-refused ne = post .refused ne ∙ sym (post′ .refused (λ z. ne (numbers ∙ z)))

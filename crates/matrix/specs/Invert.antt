@@ -23,6 +23,12 @@ columnNumber Inverted = 0
 columnNumber (SingularAt c) = c
 columnNumber (Refused q) = 0
 
+-- a number has one case: 0 is `Inverted`, and 15 is `Singular`
+abbrev pub Proper : Inversion → Type 0
+Proper Inverted = Unit {0}
+Proper (SingularAt c) = Unit {0}
+Proper (Refused q) = (q ≡ 0 → ⊥) × (q ≡ 15 → ⊥)
+
 -- "Is the matrix side from 1 to 32? No: 16."
 abbrev pub sideAsked : ℕ → Question
 sideAsked s = ask (leb 1 s && leb s 32) 16
@@ -47,3 +53,4 @@ pub record InvertPost (s : ℕ) (m old : List ℕ) (answer : Inversion) (new : L
   pub refused : (number answer ≡ 0 → ⊥) → new ≡ old
   pub dependent : number answer ≡ 15 → Dependent s m (columnNumber answer)
   pub noColumn : (number answer ≡ 15 → ⊥) → columnNumber answer ≡ 0
+  pub proper : Proper answer

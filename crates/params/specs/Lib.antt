@@ -1,4 +1,2 @@
 pub mod Nodes
 pub mod Params
-pub mod Gates
-pub mod Valid

@@ -1,6 +1,4 @@
-// Code parameters, nodes and node sets, and the questions that each call puts before it is served (document 01, "The arrangement and the record"
-// and "Questions at the gate"). No field arithmetic.
-pub mod gates;
+// Code parameters, nodes and node sets (document 01, "The arrangement and the record"). No field arithmetic.
 pub mod node_set;
 
 ghost use mathlib.Core.Path.{_≡_};

@@ -1,0 +1,6 @@
+mod Fronts
+mod ReadBack
+mod PowerBlocks
+mod Vanishing
+mod AddedBlocks
+mod Viewed

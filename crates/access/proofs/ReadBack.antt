@@ -1,0 +1,71 @@
+-- The rows that take values to leading coefficients, applied to the blocks read, give the message of the one pair that gives these blocks: at each byte
+-- place the blocks are the values of the pair's polynomial. Assumes nothing.
+use mathlib.Core.Path.{_≡_, sym, ap, _∙_, subst}
+use mathlib.Core.List.{List, _++_}
+use Prim.Native.Nat.{ℕ, suc, _*_, _^_, _≤_, _<_}
+use native.Mathlib.Nat.{le-refl, mul-le-mul-right}
+use native.Mathlib.Omega.{arith}
+use lib.ListN.{length, getD, take, length-append}
+use Rattle.base.specs.Seq.{cell}
+use Rattle.base.proofs.Seq.{cells-ext}
+use Rattle.field.specs.Field.{Bytes, mul}
+use Rattle.field.specs.FiniteSum.{sum}
+use Rattle.field.proofs.FiniteSum.{sum-ext}
+use Rattle.interpolation.specs.Polynomial.{evaluate}
+use Rattle.interpolation.proofs.Rows.{cell-byte}
+use Rattle.params.specs.Nodes.{has, size}
+use Rattle.params.specs.Params.{slackParts, working}
+use Rattle.gates.specs.Valid.{DecodeAccepted}
+use Rattle.params.specs.declared.Params.{Params}
+use Rattle.params.proofs.Sets.{within-has}
+use Rattle.gates.proofs.Valid.{working-is}
+use Rattle.code.specs.Code.{point, block, Gives}
+use Rattle.code.specs.Calls.{Decoded}
+use Rattle.code.proofs.Pairs.{from-reads, pair-exists}
+use Rattle.kernels.specs.Blocks.{Fits, Multiplied}
+use Rattle.coefficients.specs.Coefficients.{placesOf, pointAt, Reads}
+use Rattle.coefficients.proofs.Laws.{place-of, fits-placed, product-placed}
+use Rattle.access.proofs.Fronts.{cell-front}
+
+module _ (a : Params) (from out : ℕ) (word : from < 2 ^ 32) (codeword : List ℕ) (ok : DecodeAccepted a (length codeword) out from) where
+  module _ (x v : List ℕ) (gives : Gives a x v (has from) codeword) where
+    -- the block read for the set's node o is the value at its point
+    value : (p o : ℕ) → p < a .b → o < size from
+        → cell (a .b) codeword (getD (placesOf from) o 0) p
+        ≡ evaluate (a .k) (slackParts a) (λ j. cell (a .b) x j p) (λ j. cell (a .b) v j p) (pointAt from o)
+    unfolding block
+    value p o hp ho =
+        let g = place-of from o word ho in
+        ap (λ (j : ℕ). cell (a .b) codeword j p) (g .3)
+        ∙ sym (gives .equal (g .0) p (within-has (a .n) from word .0 (ok .from-within) (suc (g .0)) (g .1)) (g .1) hp)
+        ∙ ap (λ (c : ℕ). evaluate (a .k) (slackParts a) (λ j. cell (a .b) x j p) (λ j. cell (a .b) v j p) (point c)) (sym (g .2))
+
+    -- so a row takes the blocks read to a part of the message
+    part-read : (rows : List ℕ) → Reads from rows → (j p : ℕ) → j < a .k → p < a .b
+        → sum (size from) (λ o. mul (cell (size from) rows j o) (cell (a .b) codeword (getD (placesOf from) o 0) p)) ≡ cell (a .b) x j p
+    unfolding working
+    part-read rows reads j p hj hp =
+        sum-ext (size from) _ _ (λ o ho. ap (mul (cell (size from) rows j o)) (value p o hp ho))
+        ∙ reads .takes (a .k) (slackParts a) (λ j. cell (a .b) x j p) (λ j. cell (a .b) v j p) (working-is a (ok .valid) ∙ sym (ok .from-size))
+        (λ j. cell-byte (a .b) x j p (gives .pair .message .bytes)) (λ j. cell-byte (a .b) v j p (gives .pair .slack .bytes)) j hj
+
+  -- q is the set's size as the code counts it
+  pub decoded : (q : ℕ) (places rows rest old new : List ℕ) → out ≡ length old → Bytes codeword → q ≡ size from → places ≡ placesOf from
+      → length rows ≡ q * q → Reads from rows → Multiplied (a .k) (a .b) q codeword (take q places) (rows ++ rest) old new → Decoded a codeword from new
+  decoded q places rows rest old new room bytes hq hp square reads made =
+      let v = ok .valid in
+      let k : a .k ≤ q = omega (arith, ok .from-size, v .shape .k-le-r) in
+      let fits : Fits (a .k) (a .b) q (take q places) (length codeword) (length (rows ++ rest)) (length old) =
+      fits-placed from word places hp q hq (a .n) (a .k) (a .b) q (length codeword) (length (rows ++ rest)) (length old)
+      (within-has (a .n) from word .0 (ok .from-within)) (sym room ∙ ok .out-length) (le-refl q)
+      (omega (arith, mul-le-mul-right q k, length-append rows rest)) (omega (arith, ok .codeword-length)) in
+      let g = pair-exists a v (has from) (from-reads a from v (ok .from-within) (ok .from-size)) codeword bytes in
+      let same : new ≡ g .0 =
+      cells-ext (a .b) (a .k) new (g .0) (v .b-low) (made .same ∙ sym room ∙ ok .out-length) (g .2 .pair .message .length-is)
+      (λ j p hj hb.
+      made .written fits j p hj hb ∙ product-placed from word places hp q hq (a .b) q codeword (rows ++ rest) j p
+      ∙ sum-ext q _ _
+      (λ o ho. ap (λ (y : ℕ). mul y (cell (a .b) codeword (getD (placesOf from) o 0) p)) (cell-front q q rows rest square j o (omega arith) ho))
+      ∙ ap (λ (m : ℕ). sum m (λ o. mul (cell m rows j o) (cell (a .b) codeword (getD (placesOf from) o 0) p))) hq
+      ∙ part-read (g .0) (g .1) (g .2) rows reads j p hj hb) in
+      record { slack = g .1; gives = subst (λ (x : List ℕ). Gives a x (g .1) (has from) codeword) (sym same) (g .2) }

@@ -1,0 +1,109 @@
+-- The rows that extend a change, applied to it, give the differences: at each byte place the change's polynomial is 00 at the nodes outside W, so that the
+-- leading rows alone take it to its values at W's nodes. Assumes nothing.
+use mathlib.Core.Path.{_≡_, sym, ap, ap₂, _∙_}
+use mathlib.Core.Bool.{true, false, not, _&&_}
+use mathlib.Core.List.{List, _++_}
+use Prim.Native.Nat.{ℕ, suc, _-_, _*_, _^_, _≤_, _<_}
+use native.Mathlib.Nat.{le-refl}
+use native.Mathlib.Omega.{arith}
+use borrow.Author.Tests.{not-true}
+use lib.Dec.{leb}
+use lib.ListN.{length, getD, take, length-append}
+use Rattle.base.specs.Seq.{cell}
+use Rattle.field.specs.Field.{Bytes, add, mul}
+use Rattle.field.specs.FiniteSum.{sum}
+use Rattle.field.proofs.Addition.{add-zero-right}
+use Rattle.field.proofs.Multiplication.{mul-zero-right}
+use Rattle.field.proofs.FiniteSum.{sum-ext, sum-zeros}
+use Rattle.interpolation.specs.Polynomial.{evaluate}
+use Rattle.interpolation.proofs.Rows.{cell-byte}
+use Rattle.params.specs.Nodes.{has, size, count, outside}
+use Rattle.params.specs.Params.{slackParts}
+use Rattle.gates.specs.Valid.{DeltaAccepted}
+use Rattle.params.specs.declared.Params.{Params}
+use Rattle.base.proofs.Questions.{both-known, both-le}
+use Rattle.params.proofs.Sets.{rank-lt, node-at-rank, size-count, entry, outside-has, outside-size}
+use Rattle.code.specs.Code.{point, block}
+use Rattle.code.specs.Calls.{Vanishes, Differences}
+use Rattle.code.proofs.Pairs.{spread-exists}
+use Rattle.kernels.specs.Blocks.{Fits, Multiplied}
+use Rattle.coefficients.specs.Coefficients.{listed, inOrder, pointAt, Extends, Roomy}
+use Rattle.coefficients.proofs.Laws.{fits-first, product-first}
+use Rattle.access.proofs.Fronts.{cell-front}
+
+module _ (a : Params) (d old : List ℕ) (to other : ℕ) (word : to < 2 ^ 32) (other-word : other < 2 ^ 32)
+    (ok : DeltaAccepted a (length d) (length old) to) (is : (i : ℕ) → has other i ≡ (outside (a .n) to i && leb i 32)) where
+  -- as many nodes outside W as the slack has parts
+  others : size other ≡ slackParts a
+  unfolding slackParts
+  others = outside-size (a .n) to other (ok .valid .shape .n-high) is other-word (ok .to-within) ∙ ap (λ (m : ℕ). a .n - m) (ok .to-size)
+
+  -- what the rows ask; l is that number as the code counts it
+  pub roomy : (l leading gains : ℕ) → l ≡ slackParts a → leading ≡ a .w * a .k → gains ≡ a .w * l → Roomy (a .k) other to leading gains
+  roomy l leading gains hl full rest =
+      let t = ok .valid .shape in
+      record {
+        most = omega (arith, t .k-le-w, t .w-le-n, t .n-high);
+        leading-room = full ∙ ap (λ (m : ℕ). m * a .k) (sym (ok .to-size));
+        gains-room = rest ∙ ap₂ _*_ (sym (ok .to-size)) (hl ∙ sym others);
+      }
+
+  -- node o of them
+  other-at : (o : ℕ) → o < size other → (j : ℕ) × (j < a .n) × (has to (suc j) ≡ false) × (getD (listed other) o 0 ≡ suc j)
+  other-at o h =
+      let g = entry (has other) 32 o (omega (arith, size-count 32 other other-word)) in
+      let y = both-known (leb 1 (suc (g .0)) && leb (suc (g .0)) (a .n)) (not (has to (suc (g .0))))
+      (sym (outside-has (a .n) to other (ok .valid .shape .n-high) is (suc (g .0))) ∙ g .2) in
+      (g .0, both-le 1 (suc (g .0)) (suc (g .0)) (a .n) (y .0) .1, not-true (has to (suc (g .0))) (y .1), g .3)
+
+  module _ (leading gains : List ℕ) (extends : Extends (a .k) other to leading gains) (bytes : Bytes d) (v : List ℕ) (vanishes : Vanishes a d to v) where
+    -- the change's polynomial at byte place p
+    at : ℕ → ℕ → ℕ → ℕ
+    at p m c = evaluate (a .k) m (λ j. cell (a .b) d j p) (λ j. cell (a .b) v j p) c
+
+    at-block : (p m i : ℕ) → m ≡ slackParts a → at p m (point i) ≡ block a d v i p
+    unfolding at block
+    at-block p m i h = ap (λ (s : ℕ). evaluate (a .k) s (λ j. cell (a .b) d j p) (λ j. cell (a .b) v j p) (point i)) h
+
+    -- .. is 00 at the nodes outside
+    clears : (p o : ℕ) → p < a .b → o < size other → at p (size other) (pointAt other o) ≡ 0
+    clears p o hp ho =
+        let g = other-at o ho in
+        ap (λ (c : ℕ). at p (size other) (point c)) (g .3) ∙ at-block p (size other) (suc (g .0)) others ∙ vanishes .zero (g .0) p (g .1) (g .2) hp
+
+    -- so the leading row at a node's rank gives the node's block
+    at-rank : (j p : ℕ) → j < a .n → has to (suc j) ≡ true → p < a .b
+        → sum (a .k) (λ i. mul (cell (a .k) leading (count (has to) j) i) (cell (a .b) d i p)) ≡ block a d v (suc j) p
+    unfolding at
+    at-rank j p hj h hp =
+        let t = count (has to) j in
+        let low : j < 32 = omega (arith, ok .valid .shape .n-high) in
+        sym
+        (extends .takes (λ i. cell (a .b) d i p) (λ i. cell (a .b) v i p) (λ i. cell-byte (a .b) d i p bytes)
+        (λ i. cell-byte (a .b) v i p (vanishes .slack .bytes)) t (omega (arith, rank-lt (has to) 32 j low h, size-count 32 to word))
+        ∙ ap (add (sum (a .k) (λ i. mul (cell (a .k) leading t i) (cell (a .b) d i p))))
+        (sum-zeros (size other) _ (λ o ho. ap (mul (cell (size other) gains t o)) (clears p o hp ho) ∙ mul-zero-right _))
+        ∙ add-zero-right _)
+        ∙ ap (λ (c : ℕ). at p (size other) (point c)) (node-at-rank (has to) 32 j low h)
+        ∙ at-block p (size other) (suc j) others
+
+  pub differences : (leading gains rest order new : List ℕ) → length leading ≡ a .w * a .k → Extends (a .k) other to leading gains → Bytes d
+      → order ≡ inOrder → Multiplied (a .w) (a .b) (a .k) d (take (a .k) order) (leading ++ rest) old new → Differences a d to new
+  differences leading gains rest order new full extends bytes o made =
+      let v = ok .valid in
+      let k : a .k ≤ 32 = omega (arith, v .shape .k-le-w, v .shape .w-le-n, v .shape .n-high) in
+      let fits : Fits (a .w) (a .b) (a .k) (take (a .k) order) (length d) (length (leading ++ rest)) (length old) =
+      fits-first order o (a .k) k (a .w) (a .b) (a .k) (length d) (length (leading ++ rest)) (length old) (ok .out-length) (le-refl (a .k))
+      (omega (arith, full, length-append leading rest)) (omega (arith, ok .change-length)) in
+      let s = spread-exists a to v (ok .to-within) (ok .to-size) d in
+      record {
+        slack = s .0;
+        vanishes = s .1;
+        length-is = made .same ∙ ok .out-length;
+        holds = λ j p hj h hp.
+            let t = count (has to) j in
+            let rank : t < a .w = omega (arith, rank-lt (has to) 32 j (omega (arith, v .shape .n-high)) h, size-count 32 to word, ok .to-size) in
+            made .written fits t p rank hp ∙ product-first order o (a .k) k (a .b) (a .k) d (leading ++ rest) t p
+            ∙ sum-ext (a .k) _ _ (λ i hi. ap (λ (y : ℕ). mul y (cell (a .b) d i p)) (cell-front (a .k) (a .w) leading rest full t i rank hi))
+            ∙ at-rank leading gains extends bytes (s .0) (s .1) j p hj h hp;
+      }

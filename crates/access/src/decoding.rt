@@ -1,0 +1,46 @@
+// Document 01's reading.
+use coefficients::places_of;
+use coefficients::reading_rows;
+use gates::decode_gate;
+use kernels::product;
+use params::NodeSet;
+use params::Params;
+ghost use mathlib.Core.Path.{_≡_};
+ghost use lib.ListN.{length};
+ghost use Rattle.gates.specs.Valid.{DecodeAccepted};
+ghost use Rattle.code.specs.Calls.{DecodePost, Decoded};
+
+// Reads the message from the blocks of the nodes in from, whichever bytes they hold. A refusal leaves out as it was.
+pub fn decode(a: Params, codeword: &[u8], from: NodeSet, out: &mut [u8]) -> u32
+    ensures { λ r. ⌜ DecodePost a (now (codeword .entry)) (from .0) (now (out .entry)) r (now (out .exit)) ⌝ }
+{
+    let number = decode_gate(a, codeword.len(), out.len(), from);
+    if number != 0 {
+        return number;
+    }
+    decode_parts(a, codeword, from, out);
+    0
+}
+
+fn decode_parts(a: Params, codeword: &[u8], from: NodeSet, out: &mut [u8])
+    requires { ⌜ DecodeAccepted a (length (now codeword)) (length (now out)) (from .0) ⌝ }
+    ensures { λ _. ⌜ Decoded a (now (codeword .entry)) (from .0) (now (out .exit)) ⌝ }
+{
+    let mut rows = [0u8; 1024];
+    decode_within(a, codeword, from, &mut rows, out);
+}
+
+// The same, with room for the rows that take the blocks read to message and slack; the first of them are the message's.
+fn decode_within(a: Params, codeword: &[u8], from: NodeSet, rows: &mut [u8], out: &mut [u8])
+    requires { ⌜ DecodeAccepted a (length (now codeword)) (length (now out)) (from .0) ⌝ }
+    requires { ⌜ length (now rows) ≡ 1024 ⌝ }
+    ensures { λ _. ⌜ Decoded a (now (codeword .entry)) (from .0) (now (out .exit)) ⌝ }
+{
+    let k = a.k;
+    let b = a.b;
+    let q = from.size();
+    let area = q * q;
+    let places = places_of(from);
+    reading_rows(from, &mut rows[..area]);
+    product(out, k, b, codeword, &places[..q], rows, q);
+}

@@ -1,0 +1,206 @@
+-- Completion rows: the inverse takes what the remaining coefficients give at some nodes to what they give at others, and what the leading ones give
+-- there goes the same way and is counted twice, that is not at all. Assumes nothing.
+use mathlib.Core.Path.{_≡_, refl, sym, ap, ap₂, _∙_, subst, subst₂}
+use mathlib.Core.List.{List}
+use Prim.Native.Nat.{ℕ, suc, _+_, _*_, _^_, _≤_, _<_}
+use native.Mathlib.Nat.{zero-add, le-refl}
+use native.Mathlib.Omega.{arith}
+use lib.ListN.{length, getD, take}
+use Rattle.base.specs.Seq.{cell}
+use Rattle.field.specs.Field.{add, mul, pow}
+use Rattle.field.specs.FiniteSum.{sum}
+use Rattle.field.proofs.Addition.{add-assoc, add-cancel}
+use Rattle.field.proofs.Multiplication.{mul-byte, mul-comm, mul-assoc, mul-add-left, mul-add-right}
+use Rattle.field.proofs.FiniteSum.{sum-zero, sum-byte, sum-ext, sum-add, mul-sum, sum-mul, sum-exchange}
+use Rattle.interpolation.specs.Polynomial.{evaluate, Points}
+use Rattle.matrix.specs.Matrix.{IsInverse}
+use Rattle.params.specs.Nodes.{size}
+use Rattle.code.specs.Code.{point}
+use Rattle.kernels.specs.Blocks.{Multiplied, Added}
+use Rattle.coefficients.specs.Coefficients.{listed, pointAt, inOrder, powerRows, Roomy, ExtendsPost}
+use Rattle.coefficients.specs.Working.{pointsOf, remaining, Carries, Carriable, Shared, Sharable, Completed, Completable}
+use Rattle.coefficients.proofs.Laws.{size-most, length-listed, length-powerRows, powerRows-at, fits-first, product-first}
+use Rattle.coefficients.proofs.Solve.{listed-points, solved}
+
+-- the product of a row and a matrix, applied, is the row applied to what the matrix gives
+associate : (k l : ℕ) (a : ℕ → ℕ) (m : ℕ → ℕ → ℕ) (x : ℕ → ℕ)
+    → sum k (λ j. mul (sum l (λ t. mul (a t) (m t j))) (x j)) ≡ sum l (λ t. mul (a t) (sum k (λ j. mul (m t j) (x j))))
+associate k l a m x =
+    sum-ext k _ _ (λ j hj. sum-mul l (x j) (λ t. mul (a t) (m t j)) ∙ sum-ext l _ _ (λ t ht. mul-assoc (a t) (m t j) (x j)))
+    ∙ sum-exchange k l (λ j t. mul (a t) (mul (m t j) (x j)))
+    ∙ sum-ext l _ _ (λ t ht. sym (mul-sum k (a t) (λ j. mul (m t j) (x j))))
+
+-- ---- gains
+
+-- the targets' powers times the inverse, both as the code lends them
+pub carries : (e : ℕ) (at targets inverse powers lent order old new : List ℕ) → Carriable at targets old
+    → IsInverse (length at) (powerRows e (length at) at) inverse → lent ≡ inverse → powers ≡ powerRows e (length at) targets → order ≡ inOrder
+    → Multiplied (length targets) (length at) (length at) lent (take (length at) order) powers old new → Carries e at targets new
+carries e at targets inverse powers lent order old new can inv hl hp ho made =
+    let m = length at in
+    let count = length targets in
+    record {
+      takes = λ v hv t ht.
+          sum-ext m _ _
+          (λ j hj. mul-comm (v j) _ ∙ ap (mul (pow (point (getD targets t 0)) (e + suc j)))
+          (solved e at inverse inv v (λ o. remaining e m v (getD at o 0)) (λ j hj. hv j) (λ i hi. sum-byte m _ (λ j hj. mul-byte (v j) _)) (λ i hi. refl) j hj))
+          ∙ sym (associate m m (λ j. pow (point (getD targets t 0)) (e + suc j)) (cell m inverse) (λ o. remaining e m v (getD at o 0)))
+          ∙ sum-ext m _ _
+          (λ o ho′.
+          ap (λ (q : ℕ). mul q (remaining e m v (getD at o 0)))
+          (sum-ext m _ _
+          (λ j hj. ap₂ mul (sym (powerRows-at e m targets t j ht hj) ∙ ap (λ (l : List ℕ). cell m l t j) (sym hp)) (ap (λ (l : List ℕ). cell m l j o) (sym hl)))
+          ∙ sym (product-first order ho m (can .most) m m lent powers t o)
+          ∙ sym
+          (made .written
+          (fits-first order ho m (can .most) count m m (length lent) (length powers) (length old) (can .room) (le-refl m)
+          (omega (arith, ap length hp ∙ length-powerRows e m targets)) (omega (arith, ap length hl ∙ inv .count))) t o ht ho′)));
+    }
+
+-- ---- the share of the leading coefficients
+
+pub shared : (rows e : ℕ) (at gains powers order old new : List ℕ) → Sharable rows e at gains old → powers ≡ powerRows 0 e at → order ≡ inOrder
+    → Added rows e (length at) powers (take (length at) order) gains old new → Shared rows e at gains old new
+shared rows e at gains powers order old new can hp ho made =
+    let m = length at in
+    record {
+      entries = λ t j ht hj.
+          made .written
+          (fits-first order ho m (can .most) rows e m (length powers) (length gains) (length old) (can .room) (le-refl m) (omega (arith, can .gains-room))
+          (omega (arith, ap length hp ∙ length-powerRows 0 e at))) t j ht hj
+          ∙ ap (add (cell e old t j))
+          (product-first order ho m (can .most) e m powers gains t j
+          ∙ sum-ext m _ _
+          (λ o ho′.
+          ap (mul (cell m gains t o))
+          (ap (λ (l : List ℕ). cell e l o j) hp ∙ powerRows-at 0 e at o j ho′ hj ∙ ap (pow (point (getD at o 0))) (zero-add (suc j)))));
+    }
+
+-- ---- together
+
+-- what the leading coefficients give at a node
+abbrev leads : ℕ → (ℕ → ℕ) → ℕ → ℕ
+leads e x node = sum e (λ j. mul (x j) (pow (point node) (suc j)))
+
+-- .. is what the row of powers takes them to
+leading-row : (e : ℕ) (nodes : List ℕ) (x : ℕ → ℕ) (t : ℕ) → t < length nodes
+    → sum e (λ j. mul (cell e (powerRows 0 e nodes) t j) (x j)) ≡ leads e x (getD nodes t 0)
+leading-row e nodes x t ht =
+    sum-ext e _ _
+    (λ j hj.
+    ap (λ (q : ℕ). mul q (x j)) (powerRows-at 0 e nodes t j ht hj ∙ ap (pow (point (getD nodes t 0))) (zero-add (suc j))) ∙ mul-comm _ (x j))
+
+sum-none : (n : ℕ) (f : ℕ → ℕ) → n ≡ 0 → sum n f ≡ 0
+sum-none n f none = ap (λ (k : ℕ). sum k f) none ∙ sum-zero f
+
+-- with no value to go by, the leading coefficients are all
+pub completed-none : (e : ℕ) (at targets leading gains : List ℕ) → length at ≡ 0 → leading ≡ powerRows 0 e targets
+    → Completed e at targets leading gains
+unfolding evaluate
+completed-none e at targets leading gains none hl =
+    record {
+      takes = λ x v hv t ht.
+          ap₂ add
+          (sym (ap (λ (l : List ℕ). sum e (λ j. mul (cell e l t j) (x j))) hl ∙ leading-row e targets x t ht))
+          (sum-none (length at) _ none ∙ sym (sum-none (length at) _ none));
+    }
+
+-- L for what the leading coefficients give at the target, G for what they give at the other nodes and R for the rest: (L + G) + (G + R) = L + R
+pub completed : (e : ℕ) (at targets old leading gains : List ℕ) → old ≡ powerRows 0 e targets → Carries e at targets gains
+    → Shared (length targets) e at gains old leading → Completed e at targets leading gains
+unfolding evaluate
+completed e at targets old leading gains hl carry share =
+    record {
+      takes = λ x v hv t ht.
+          let m = length at in
+          let g : ℕ → ℕ = cell m gains t in
+          let L = leads e x (getD targets t 0) in
+          let G = sum m (λ o. mul (g o) (leads e x (getD at o 0))) in
+          let R = remaining e m v (getD targets t 0) in
+          let first : sum e (λ j. mul (cell e leading t j) (x j)) ≡ add L G =
+          sum-ext e _ _
+          (λ j hj.
+          ap (λ (q : ℕ). mul q (x j)) (share .entries t j ht hj ∙ ap (λ (l : List ℕ). add (cell e l t j) (sum m (λ o. mul (g o) (pow (point (getD at o 0)) (suc j))))) hl)
+          ∙ mul-add-left (cell e (powerRows 0 e targets) t j) _ (x j))
+          ∙ sum-add e _ _
+          ∙ ap₂ add (leading-row e targets x t ht)
+          (associate e m g (λ o j. pow (point (getD at o 0)) (suc j)) x
+          ∙ sum-ext m _ _ (λ o ho. ap (mul (g o)) (sum-ext e _ _ (λ j hj. mul-comm _ (x j))))) in
+          let second : sum m (λ o. mul (g o) (add (leads e x (getD at o 0)) (remaining e m v (getD at o 0)))) ≡ add G R =
+          sum-ext m _ _ (λ o ho. mul-add-right (g o) _ _) ∙ sum-add m _ _ ∙ ap (add G) (sym (carry .takes v hv t ht)) in
+          sym (ap₂ add first second ∙ sym (add-assoc (add L G) G R) ∙ ap (λ (q : ℕ). add q R) (add-cancel L G));
+    }
+
+-- ---- the sets
+
+-- two sets, their sizes, and their lists as they are lent
+pub record Lent (at targets m count : ℕ) (known wanted : List ℕ) : Type 0 where
+  pub at-word : at < 2 ^ 32
+  pub targets-word : targets < 2 ^ 32
+  pub at-size : m ≡ size at
+  pub targets-size : count ≡ size targets
+  pub known-is : known ≡ listed at
+  pub wanted-is : wanted ≡ listed targets
+
+module _ (e at targets m count : ℕ) (known wanted leading gains : List ℕ) (lent : Lent at targets m count known wanted) (e-most : e ≤ 32)
+    (leading-room : length leading ≡ count * e) (gains-room : length gains ≡ count * m) where
+  known-length : length known ≡ m
+  known-length = ap length (lent .known-is) ∙ length-listed at (lent .at-word) ∙ sym (lent .at-size)
+
+  wanted-length : length wanted ≡ count
+  wanted-length = ap length (lent .wanted-is) ∙ length-listed targets (lent .targets-word) ∙ sym (lent .targets-size)
+
+  pub completable : Completable e known wanted leading gains
+  completable =
+      record {
+        e-most = e-most;
+        most = omega (arith, known-length, lent .at-size, size-most at (lent .at-word));
+        points = subst (λ (l : List ℕ). Points (pointsOf l)) (sym (lent .known-is)) (listed-points at);
+        targets-most = omega (arith, wanted-length, lent .targets-size, size-most targets (lent .targets-word));
+        leading-room = leading-room ∙ ap (λ (k : ℕ). k * e) (sym wanted-length);
+        gains-room = gains-room ∙ ap₂ (λ (j k : ℕ). j * k) (sym wanted-length) (sym known-length);
+      }
+
+  pub extends-made : (newLeading newGains : List ℕ) → length newLeading ≡ length leading → length newGains ≡ length gains
+      → Completed e known wanted newLeading newGains → ExtendsPost e at targets leading gains newLeading newGains
+  extends-made newLeading newGains sameLeading sameGains done =
+      record {
+        same-leading = sameLeading;
+        same-gains = sameGains;
+        written = λ r.
+            record {
+              takes = λ x v hx hv t lt.
+                  subst
+                  (λ (l : List ℕ). evaluate e (size at) x v (point (getD l t 0))
+                  ≡ add (sum e (λ j. mul (cell e newLeading t j) (x j)))
+                  (sum (size at) (λ o. mul (cell (size at) newGains t o) (evaluate e (size at) x v (pointAt at o)))))
+                  (lent .wanted-is)
+                  (subst₂
+                  (λ (k : ℕ) (l : List ℕ). evaluate e k x v (point (getD wanted t 0))
+                  ≡ add (sum e (λ j. mul (cell e newLeading t j) (x j)))
+                  (sum k (λ o. mul (cell k newGains t o) (evaluate e k x v (point (getD l o 0))))))
+                  (known-length ∙ lent .at-size) (lent .known-is) (done .takes x v hv t (omega (arith, wanted-length, lent .targets-size))));
+            };
+        kept = λ none. absurd (none
+            (record {
+              most = e-most;
+              leading-room = leading-room ∙ ap (λ (k : ℕ). k * e) (lent .targets-size);
+              gains-room = gains-room ∙ ap₂ (λ (j k : ℕ). j * k) (lent .targets-size) (lent .at-size);
+            }));
+      }
+
+-- nothing is written where there is no room for just the leading rows, or for just the gains
+extends-kept : (e at targets : ℕ) (leading gains : List ℕ) → (Roomy e at targets (length leading) (length gains) → ⊥)
+    → ExtendsPost e at targets leading gains leading gains
+extends-kept e at targets leading gains none =
+    record { same-leading = refl; same-gains = refl; written = λ r. absurd (none r); kept = λ r. (refl, refl) }
+
+pub no-leading-room : (e at targets count : ℕ) (leading gains : List ℕ) → count ≡ size targets → (length leading ≡ count * e → ⊥)
+    → ExtendsPost e at targets leading gains leading gains
+no-leading-room e at targets count leading gains all none =
+    extends-kept e at targets leading gains (λ r. none (r .leading-room ∙ ap (λ (k : ℕ). k * e) (sym all)))
+
+pub no-gains-room : (e at targets m count : ℕ) (leading gains : List ℕ) → m ≡ size at → count ≡ size targets → (length gains ≡ count * m → ⊥)
+    → ExtendsPost e at targets leading gains leading gains
+no-gains-room e at targets m count leading gains few all none =
+    extends-kept e at targets leading gains (λ r. none (r .gains-room ∙ ap₂ (λ (j k : ℕ). j * k) (sym all) (sym few)))

@@ -1,0 +1,4 @@
+pub mod Laws
+mod Rows
+mod Solve
+mod Completion

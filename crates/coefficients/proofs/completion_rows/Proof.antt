@@ -1,0 +1,108 @@
+-- Where there is room for just the rows, they are those of the two sets' lists. Assumes nothing.
+use mathlib.Core.Path.{subst⁻¹}
+use Prim.Native.Nat.{ℕ, _^_, _≤_, _<_}
+use native.Mathlib.Omega.{arith}
+use borrow.Author.Needs.{needs}
+use denote.Ref.{now}
+use lib.ListN.{take}
+use Rattle.coefficients.proofs.Laws.{areas-fit, size-most, front-fits, front-count, front-is}
+use Rattle.coefficients.proofs.Completion.{Lent, completable, extends-made, no-leading-room, no-gains-room}
+use Rattle.coefficients.proofs.completion_rows.Statement.{statement}
+use Rattle.coefficients.proofs.completion_rows.Tie as tie
+
+word : (c : tie.Start) → (c .args .at .0 < 2 ^ 32) × (c .args .targets .0 < 2 ^ 32)
+word c = (omega arith, omega arith)
+
+at-most : (c : tie.After-size) → c .size .result ≤ 32
+at-most c = subst⁻¹ (λ (k : ℕ). k ≤ 32) (c .size .ensures) (size-most _ (word (c .before .before .before) .0))
+
+targets-most : (c : tie.After-size2) → c .size2 .result ≤ 32
+targets-most c = subst⁻¹ (λ (k : ℕ). k ≤ 32) (c .size2 .ensures) (size-most _ (word (c .before .before .before .before) .1))
+
+-- the nodes that are lent
+lent : (c : tie.After-list2) → Lent (c .before .before .before .before .before .before .before .before .before .args .at .0) (c .before .before .before .before .before .before .before .before .before .args .targets .0) (c .before .before .before .before .before .before .size .result) (c .before .before .before .before .before .size2 .result)
+    (take (c .before .before .before .before .before .before .size .result) (c .before .list .result)) (take (c .before .before .before .before .before .size2 .result) (c .list2 .result))
+lent c =
+    record {
+      at-word = word (c .before .before .before .before .before .before .before .before .before) .0;
+      targets-word = word (c .before .before .before .before .before .before .before .before .before) .1;
+      at-size = c .before .before .before .before .before .before .size .ensures;
+      targets-size = c .before .before .before .before .before .size2 .ensures;
+      known-is = front-is _ (word (c .before .before .before .before .before .before .before .before .before) .0) (c .before .list .result) (c .before .list .ensures) _ (c .before .before .before .before .before .before .size .ensures);
+      wanted-is = front-is _ (word (c .before .before .before .before .before .before .before .before .before) .1) (c .list2 .result) (c .list2 .ensures) _ (c .before .before .before .before .before .size2 .ensures);
+    }
+
+size-requires : tie.Need-size-requires
+size-requires c κs = search needs
+
+size-requires-2 : tie.Need-size-requires-2
+size-requires-2 c κs = search needs
+
+returns : tie.Need-returns
+returns c = search needs
+
+mul-if2 : tie.Need-mul-if2
+mul-if2 c = omega (arith, areas-fit (c .before .size2 .result) (c .before .before .before .before .before .args .e) (targets-most (c .before)) (omega arith))
+
+returns-2 : tie.Need-returns-2
+returns-2 c = no-leading-room (c .before .before .before .before .before .before .args .e) _ _ _ (now (c .before .before .before .before .before .before .args .leading)) (now (c .before .before .before .before .before .before .args .gains)) (c .before .before .size2 .ensures) (c .if2 .taken)
+
+mul-if3 : tie.Need-mul-if3
+mul-if3 c = omega (arith, areas-fit _ _ (targets-most (c .before .before)) (at-most (c .before .before .before)))
+
+returns-3 : tie.Need-returns-3
+returns-3 c = no-gains-room (c .before .before .before .before .before .before .before .args .e) _ _ _ _ (now (c .before .before .before .before .before .before .before .args .leading)) (now (c .before .before .before .before .before .before .before .args .gains)) (c .before .before .before .before .size .ensures) (c .before .before .before .size2 .ensures) (c .if3 .taken)
+
+list-requires : tie.Need-list-requires
+list-requires c κs = search needs
+
+list-requires-2 : tie.Need-list-requires-2
+list-requires-2 c κs = search needs
+
+array-share-prefix-known : tie.Need-array-share-prefix-known
+array-share-prefix-known c = front-fits _ (word (c .before .before .before .before .before .before .before .before .before) .0) (c .before .list .result) (c .before .list .ensures) _ (c .before .before .before .before .before .before .size .ensures)
+
+slice-aggregate-complete : tie.Need-slice-aggregate-complete
+slice-aggregate-complete c = front-count _ (word (c .before .before .before .before .before .before .before .before .before .before) .0) (c .before .before .list .result) (c .before .before .list .ensures) _ (c .before .before .before .before .before .before .before .size .ensures)
+
+array-share-prefix-wanted : tie.Need-array-share-prefix-wanted
+array-share-prefix-wanted c = front-fits _ (word (c .before .before .before .before .before .before .before .before .before .before) .1) (c .before .list2 .result) (c .before .list2 .ensures) _ (c .before .before .before .before .before .before .size2 .ensures)
+
+slice-aggregate-complete-2 : tie.Need-slice-aggregate-complete-2
+slice-aggregate-complete-2 c = front-count _ (word (c .before .before .before .before .before .before .before .before .before .before .before) .1) (c .before .before .list2 .result) (c .before .before .list2 .ensures) _ (c .before .before .before .before .before .before .before .size2 .ensures)
+
+complete-requires : tie.Need-complete-requires
+complete-requires c κs = completable (c .before .before .before .before .before .before .before .before .before .before .before .before .before .args .e) _ _ _ _ _ _ _ _ (lent (c .before .before .before .before)) (omega arith) (c .before .before .before .before .before .before .before .if2 .left) (c .before .before .before .before .before .before .if3 .left)
+
+same-length : tie.Need-same-length
+same-length c = search needs
+
+same-length-2 : tie.Need-same-length-2
+same-length-2 c = search needs
+
+returns-4 : tie.Need-returns-4
+returns-4 c =
+    extends-made (c .before .before .before .before .before .before .before .before .before .before .before .before .before .before .before .before .before .before .args .e) _ _ _ _ _ _ (now (c .before .before .before .before .before .before .before .before .before .before .before .before .before .before .before .before .before .before .args .leading)) (now (c .before .before .before .before .before .before .before .before .before .before .before .before .before .before .before .before .before .before .args .gains)) (lent (c .before .before .before .before .before .before .before .before .before)) (omega arith) (c .before .before .before .before .before .before .before .before .before .before .before .before .if2 .left) (c .before .before .before .before .before .before .before .before .before .before .before .if3 .left) _ _
+    (c .before .before .before .before .complete .kept .1 .1 .1 .0) (c .before .before .before .before .complete .kept .1 .1 .1 .1 .0) (c .before .before .before .before .complete .ensures)
+
+pub completion-rows-spec : {M : Type 1} → statement M
+completion-rows-spec =
+    tie.close
+    (tie.spec
+    size-requires
+    size-requires-2
+    returns
+    mul-if2
+    returns-2
+    mul-if3
+    returns-3
+    list-requires
+    list-requires-2
+    array-share-prefix-known
+    slice-aggregate-complete
+    array-share-prefix-wanted
+    slice-aggregate-complete-2
+    complete-requires
+    same-length
+    same-length-2
+    returns-4)

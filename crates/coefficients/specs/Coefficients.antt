@@ -1,0 +1,72 @@
+-- Small matrices of coefficients, said by what they take to what. A set of nodes stands for the list of its nodes in rising order. Assumes nothing.
+use mathlib.Core.Path.{_≡_}
+use mathlib.Core.List.{List}
+use Prim.Native.Nat.{ℕ, suc, _+_, _-_, _*_, _≤_, _<_}
+use lib.ListN.{length, getD}
+use Rattle.base.specs.Seq.{tabulate, cell, blocks}
+use Rattle.field.specs.Field.{IsByte, add, mul, pow}
+use Rattle.field.specs.FiniteSum.{sum}
+use Rattle.interpolation.specs.Polynomial.{evaluate}
+use Rattle.params.specs.Nodes.{has, size, nodes}
+use Rattle.code.specs.Code.{point}
+
+-- the set's nodes in rising order
+abbrev pub listed : ℕ → List ℕ
+listed s = nodes (has s) 32
+
+-- the point of the set's node i, counted from 0 in rising order
+abbrev pub pointAt : ℕ → ℕ → ℕ
+pointAt s i = point (getD (listed s) i 0)
+
+-- the block numbers 0, 1, .., 31
+abbrev pub inOrder : List ℕ
+inOrder = tabulate 32 (λ j. j)
+
+-- the block number of each of the set's nodes, one less than the node's number; 0 behind the last
+abbrev pub placesOf : ℕ → List ℕ
+placesOf s = tabulate 32 (λ j. getD (listed s) j 0 - 1)
+
+-- ---- powers of points
+
+-- a row for each node of a list: the powers e + 1, .., e + m of its point
+unfoldable pub powerRows : ℕ → ℕ → List ℕ → List ℕ
+powerRows e m nodes = blocks m (length nodes) (λ i j. pow (point (getD nodes i 0)) (e + suc j))
+
+-- new is these rows; where old has no room for just them, nothing is written
+pub record PowersPost (e m : ℕ) (nodes old new : List ℕ) : Type 0 where
+  pub written : length old ≡ length nodes * m → new ≡ powerRows e m nodes
+  pub kept : (length old ≡ length nodes * m → ⊥) → new ≡ old
+
+-- ---- from values to coefficients
+
+-- The rows take the values of a polynomial at the set's nodes, as many as it has coefficients, to its leading coefficients.
+pub record Reads (from : ℕ) (rows : List ℕ) : Type 0 where
+  pub takes : (k l : ℕ) (x v : ℕ → ℕ) → k + l ≡ size from → ((j : ℕ) → IsByte (x j)) → ((j : ℕ) → IsByte (v j)) → (j : ℕ) → j < k
+      → sum (size from) (λ o. mul (cell (size from) rows j o) (evaluate k l x v (pointAt from o))) ≡ x j
+
+pub record ReadsPost (from : ℕ) (old new : List ℕ) : Type 0 where
+  pub same : length new ≡ length old
+  pub written : length old ≡ size from * size from → Reads from new
+  pub kept : (length old ≡ size from * size from → ⊥) → new ≡ old
+
+-- ---- from leading coefficients and values to other values
+
+-- A polynomial with e leading coefficients x, and as many others as `at` has nodes, is settled by x and by its values at these nodes. The rows take them to
+-- its values at the nodes of `targets`: the leading ones by `leading`, the values by `gains`.
+pub record Extends (e at targets : ℕ) (leading gains : List ℕ) : Type 0 where
+  pub takes : (x v : ℕ → ℕ) → ((j : ℕ) → IsByte (x j)) → ((j : ℕ) → IsByte (v j)) → (t : ℕ) → t < size targets
+      → evaluate e (size at) x v (pointAt targets t)
+      ≡ add (sum e (λ j. mul (cell e leading t j) (x j)))
+      (sum (size at) (λ o. mul (cell (size at) gains t o) (evaluate e (size at) x v (pointAt at o))))
+
+-- what such rows ask: at most 32 leading coefficients, and room for just the rows
+pub record Roomy (e at targets leading gains : ℕ) : Type 0 where
+  pub most : e ≤ 32
+  pub leading-room : leading ≡ size targets * e
+  pub gains-room : gains ≡ size targets * size at
+
+pub record ExtendsPost (e at targets : ℕ) (oldLeading oldGains leading gains : List ℕ) : Type 0 where
+  pub same-leading : length leading ≡ length oldLeading
+  pub same-gains : length gains ≡ length oldGains
+  pub written : Roomy e at targets (length oldLeading) (length oldGains) → Extends e at targets leading gains
+  pub kept : (Roomy e at targets (length oldLeading) (length oldGains) → ⊥) → (leading ≡ oldLeading) × (gains ≡ oldGains)

@@ -1,0 +1,56 @@
+-- The first question is another gate's; then the sizes. Assumes nothing.
+use mathlib.Core.Path.{sym, ap₂, _∙_}
+use mathlib.Core.Bool.{_&&_}
+use mathlib.Core.List.{List, [], _∷_, _++_}
+use Prim.Native.Nat.{ℕ}
+use borrow.Author.Needs.{needs}
+use borrow.Author.Tests.{eq-eqb, ne-eqb}
+use Rattle.base.specs.Gate.{Question}
+use Rattle.params.specs.Nodes.{within}
+use Rattle.gates.specs.Gates.{namesAsked}
+use Rattle.base.proofs.Questions.{First, nay, yea, over, first, stopped, past, not-first}
+use Rattle.gates.proofs.sets_gate.Statement.{statement}
+use Rattle.gates.proofs.sets_gate.Tie as tie
+
+-- past the earlier gate's questions
+passed : (c : tie.Else1) {rest : List Question} {m : ℕ} → First rest m → First (namesAsked (within (c .before .before .args .n) (c .before .before .args .set .0) && within (c .before .before .args .m) (c .before .before .args .other .0)) ∷ [] ++ rest) m
+passed c = past (namesAsked (within (c .before .before .args .n) (c .before .before .args .set .0) && within (c .before .before .args .m) (c .before .before .args .other .0)) ∷ []) tt (c .before .names-gate .ensures) (c .if1 .left)
+
+names-gate-requires : tie.Need-names-gate-requires
+names-gate-requires c κs = search needs
+
+returns : tie.Need-returns
+returns c = first _ (stopped (namesAsked (within (c .before .before .args .n) (c .before .before .args .set .0) && within (c .before .before .args .m) (c .before .before .args .other .0)) ∷ []) _ (c .before .names-gate .ensures) (c .if1 .taken))
+
+size-requires : tie.Need-size-requires
+size-requires c κs = search needs
+
+returns-2 : tie.Need-returns-2
+returns-2 c = first _ (passed (c .before .before) (nay (not-first _ _ (ne-eqb _ _ (λ e. c .if2 .taken (c .before .size .ensures ∙ e))))))
+
+size-requires-2 : tie.Need-size-requires-2
+size-requires-2 c κs = search needs
+
+returns-3 : tie.Need-returns-3
+returns-3 c =
+    first _
+    (passed (c .before .before .before .before)
+    (nay (ap₂ _&&_ (eq-eqb _ _ (sym (c .before .before .before .size .ensures) ∙ c .before .before .if2 .left)) (ne-eqb _ _ (λ e. c .if3 .taken (c .before .size2 .ensures ∙ e))))))
+
+returns-4 : tie.Need-returns-4
+returns-4 c =
+    first _
+    (passed (c .before .before .before .before)
+    (yea (ap₂ _&&_ (eq-eqb _ _ (sym (c .before .before .before .size .ensures) ∙ c .before .before .if2 .left)) (eq-eqb _ _ (sym (c .before .size2 .ensures) ∙ c .if3 .left))) over))
+
+pub sets-gate-spec : {M : Type 1} → statement M
+sets-gate-spec =
+    tie.close
+    (tie.spec
+    names-gate-requires
+    returns
+    size-requires
+    returns-2
+    size-requires-2
+    returns-3
+    returns-4)

@@ -1,0 +1,67 @@
+-- Each answer of the tests on lengths decides what it is to decide: a quotient takes the place of a product that could overflow. Assumes nothing.
+use mathlib.Core.Path.{_≡_, sym, ap, _∙_}
+use mathlib.Core.Bool.{Bool, true, false, true≢false}
+use mathlib.Core.List.{List}
+use Prim.Native.Nat.{ℕ, suc, _-_, _*_, _/_, _≤_, _<_}
+use native.Mathlib.Nat.{mul-zero, mul-le-mul-right, le-div-iff-mul-le}
+use native.Mathlib.Omega.{arith}
+use borrow.Author.Tests.{leb-true, leb-false}
+use lib.Dec.{leb}
+use lib.ListN.{length, getD}
+use Rattle.kernels.specs.Blocks.{Rows, Inside, Decided, Fits}
+
+decided-true : (P : Type 0) → P → Decided P true
+decided-true P h = record { holds = λ e. h; fails = λ e. absurd (true≢false e) }
+
+decided-false : (P : Type 0) → (P → ⊥) → Decided P false
+decided-false P h = record { holds = λ e. absurd (true≢false (sym e)); fails = λ e. h }
+
+-- ---- rows of coefficients
+
+module _ (rows width stride coeffs : ℕ) where
+  pub no-rows : rows ≡ 0 → Decided (Rows rows width stride coeffs) true
+  no-rows e = decided-true _ (λ i h. absurd (omega arith))
+
+  pub rows-short : 0 < rows → coeffs < width → Decided (Rows rows width stride coeffs) false
+  rows-short h lt = decided-false _ (λ f. omega (arith, f 0 h))
+
+  pub rows-still : width ≤ coeffs → stride ≡ 0 → Decided (Rows rows width stride coeffs) true
+  rows-still le e = decided-true _ (λ i h. omega (arith, ap (λ (k : ℕ). i * k) e ∙ mul-zero i))
+
+  -- the last row ends last
+  pub rows-last : 0 < rows → width ≤ coeffs → 0 < stride → Decided (Rows rows width stride coeffs) (leb (rows - 1) ((coeffs - width) / stride))
+  rows-last hr hw hs =
+      record {
+        holds = λ e i h.
+            let last : i ≤ rows - 1 = omega arith in
+            omega (arith, le-div-iff-mul-le hs .0 (leb-true (rows - 1) ((coeffs - width) / stride) e), mul-le-mul-right stride last);
+        fails = λ e f.
+            let room : (rows - 1) * stride ≤ coeffs - width = omega (arith, f (rows - 1) (omega arith)) in
+            omega (arith, le-div-iff-mul-le hs .1 room, leb-false (rows - 1) ((coeffs - width) / stride) e);
+      }
+
+-- ---- places
+
+module _ (b : ℕ) (places : List ℕ) (src : ℕ) where
+  pub no-bytes : b ≡ 0 → Decided (Inside b places src) true
+  no-bytes e = decided-true _ (λ j h. omega (arith, ap (λ (k : ℕ). suc (getD places j 0) * k) e ∙ mul-zero (suc (getD places j 0))))
+
+  pub outside : (j : ℕ) → 0 < b → j < length places → src / b ≤ getD places j 0 → Decided (Inside b places src) false
+  outside j hb hj le = decided-false _ (λ f. omega (arith, le-div-iff-mul-le hb .1 (f j hj)))
+
+  pub inside : 0 < b → ((j : ℕ) → j < length places → getD places j 0 < src / b) → Decided (Inside b places src) true
+  inside hb f = decided-true _ (λ j h. le-div-iff-mul-le hb .0 (f j h))
+
+-- ---- all together
+
+module _ (rows b stride : ℕ) (places : List ℕ) (src coeffs out : ℕ) where
+  pub other-room : (out ≡ rows * b → ⊥) → Decided (Fits rows b stride places src coeffs out) false
+  other-room ne = decided-false _ (λ f. ne (f .room))
+
+  pub other-rows : (Rows rows (length places) stride coeffs → ⊥) → Decided (Fits rows b stride places src coeffs out) false
+  other-rows ne = decided-false _ (λ f. ne (f .row))
+
+  pub all-fits : (t : Bool) → out ≡ rows * b → Rows rows (length places) stride coeffs → Decided (Inside b places src) t
+      → Decided (Fits rows b stride places src coeffs out) t
+  all-fits t room row d =
+      record { holds = λ e. record { room = room; row = row; block = d .holds e }; fails = λ e f. d .fails e (f .block) }

@@ -1,0 +1,5 @@
+pub mod Laws
+mod Overlap
+mod Fitting
+mod Summing
+mod RowByRow

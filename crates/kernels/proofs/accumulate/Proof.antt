@@ -1,0 +1,98 @@
+-- After j turns the first j blocks are added. Assumes nothing.
+use mathlib.Core.Path.{ap, _∙_, subst⁻¹}
+use Prim.Native.Nat.{ℕ, _+_, _-_, _*_, _≤_}
+use denote.Ref.{now}
+use native.Mathlib.Omega.{arith}
+use borrow.Author.Needs.{needs}
+use lib.ListN.{length, getD}
+use Rattle.base.proofs.Parts.{partOf, partOf-at}
+use Rattle.kernels.proofs.Summing.{Summed, summed-none, summed-more, summed-all, block-end}
+use Rattle.kernels.proofs.accumulate.Statement.{statement}
+use Rattle.kernels.proofs.accumulate.Tie as tie
+
+abbrev Inv-loop : tie.InvT-loop
+Inv-loop dst₀ src places coeffs b count j₀ dst j = Summed src places coeffs j dst₀ dst
+
+abbrev μ-loop : tie.MeasureT-loop
+μ-loop dst₀ src places coeffs b count j₀ dst j = length places - j
+
+loop-holds : tie.Need-loop-holds Inv-loop μ-loop
+loop-holds c = summed-none _ _ _ _
+
+shared-slice-read-wide : tie.Need-shared-slice-read-wide Inv-loop μ-loop
+shared-slice-read-wide c = search needs
+
+wide-requires : tie.Need-wide-requires Inv-loop μ-loop
+wide-requires c κs = search needs
+
+-- the block ends within src
+inside : (c : tie.After-wide Inv-loop μ-loop)
+    → c .wide .result * length (now (c .before .before .before .before .before .before .before .before .args .dst)) + length (now (c .before .before .before .before .before .before .before .before .args .dst)) ≤ length (now (c .before .before .before .before .before .before .before .before .args .src))
+inside c =
+    let s = c .before .before .before .before .before .before .before .before in
+    subst⁻¹ (λ (k : ℕ). k * length (now (s .args .dst)) + length (now (s .args .dst)) ≤ length (now (s .args .src))) (c .wide .ensures)
+    (block-end (length (now (s .args .dst))) (now (s .args .places)) (length (now (s .args .src))) (c .before .before .before .loop .j) (s .pre .1) (omega arith))
+
+mul-start : tie.Need-mul-start Inv-loop μ-loop
+mul-start c = omega (arith, inside c)
+
+add-end : tie.Need-add-end Inv-loop μ-loop
+add-end c = omega (arith, inside c)
+
+sub-add-multiple : tie.Need-sub-add-multiple Inv-loop μ-loop
+sub-add-multiple c = search needs
+
+part-add-multiple-start : tie.Need-part-add-multiple-start Inv-loop μ-loop
+part-add-multiple-start c = search needs
+
+part-add-multiple-end : tie.Need-part-add-multiple-end Inv-loop μ-loop
+part-add-multiple-end c = inside (c .before)
+
+shared-slice-read-add-multiple : tie.Need-shared-slice-read-add-multiple Inv-loop μ-loop
+shared-slice-read-add-multiple c = search needs
+
+add-multiple-requires : tie.Need-add-multiple-requires Inv-loop μ-loop
+add-multiple-requires c κs = search needs
+
+add-j : tie.Need-add-j Inv-loop μ-loop
+add-j c = search needs
+
+loop-less : tie.Need-loop-less Inv-loop μ-loop
+loop-less c = search needs
+
+loop-again : tie.Need-loop-again Inv-loop μ-loop
+loop-again c =
+    let s = c .before .before .before .before .before .before .before .before .before .before .before .before .before .before in
+    let l = c .before .before .before .before .before .before .before .before .before .loop in
+    summed-more _ _ _ (l .j) (now (s .args .dst)) (l .dst) _ _ (omega arith)
+    (λ p h. ap (λ (k : ℕ). getD (partOf (length (now (s .args .dst))) k (now (s .args .src))) p 0) (c .before .before .before .before .before .before .wide .ensures)
+    ∙ partOf-at (length (now (s .args .dst))) (getD (now (s .args .places)) (l .j) 0) (now (s .args .src)) p h)
+    (c .before .before .add-multiple .ensures) (l .inv)
+
+same-length : tie.Need-same-length Inv-loop μ-loop
+same-length c = search needs
+
+returns : tie.Need-returns Inv-loop μ-loop
+returns c = summed-all _ _ _ _ _ _ (omega arith) (c .before .loop .inv)
+
+pub accumulate-spec : {M : Type 1} → statement M
+accumulate-spec =
+    tie.close
+    (tie.spec
+    Inv-loop
+    μ-loop
+    loop-holds
+    shared-slice-read-wide
+    wide-requires
+    mul-start
+    add-end
+    sub-add-multiple
+    part-add-multiple-start
+    part-add-multiple-end
+    shared-slice-read-add-multiple
+    add-multiple-requires
+    add-j
+    loop-less
+    loop-again
+    same-length
+    returns)

@@ -1,0 +1,77 @@
+-- What the loops over the bytes of blocks compute, for slices of any lengths. Assumes nothing.
+use mathlib.Core.Path.{_≡_}
+use mathlib.Core.Bool.{Bool, true, false}
+use mathlib.Core.List.{List}
+use Prim.Native.Nat.{ℕ, suc, _+_, _*_, _≤_, _<_}
+use lib.ListN.{length, getD}
+use Rattle.base.specs.Seq.{tabulate, cell}
+use Rattle.field.specs.Field.{add, mul}
+use Rattle.field.specs.FiniteSum.{sum}
+
+-- xs + ys, byte by byte; a byte that ys does not have counts as 00
+unfoldable pub plus : List ℕ → List ℕ → List ℕ
+plus xs ys = tabulate (length xs) (λ p. add (getD xs p 0) (getD ys p 0))
+
+-- ys laid over xs: byte p is that of ys, or that of xs where ys has none
+unfoldable pub over : List ℕ → List ℕ → List ℕ
+over xs ys = tabulate (length xs) (λ p. getD ys p (getD xs p 0))
+
+-- whether two blocks differ, as a test
+pub record Compared (xs ys : List ℕ) (answer : Bool) : Type 0 where
+  pub same : answer ≡ false → xs ≡ ys
+  pub other : answer ≡ true → xs ≡ ys → ⊥
+
+-- ---- a matrix of coefficients times blocks
+
+-- Byte p of row i: the sum of the blocks of src at the given places, each times its coefficient. Row i of the coefficients begins at i·stride.
+unfoldable pub product : ℕ → List ℕ → List ℕ → List ℕ → ℕ → ℕ → ℕ → ℕ
+product b src places coeffs stride i p = sum (length places) (λ j. mul (cell stride coeffs i j) (cell b src (getD places j 0) p))
+
+-- What a product asks of the lengths of src, coeffs and out: out has rows blocks of b bytes, there is a row of coefficients for each, and each place names
+-- a block that src has.
+pub record Fits (rows b stride : ℕ) (places : List ℕ) (src coeffs out : ℕ) : Type 0 where
+  pub room : out ≡ rows * b
+  pub row : (i : ℕ) → i < rows → i * stride + length places ≤ coeffs
+  pub block : (j : ℕ) → j < length places → suc (getD places j 0) * b ≤ src
+
+-- new is the product; where it does not fit, nothing is written
+pub record Multiplied (rows b stride : ℕ) (src places coeffs old new : List ℕ) : Type 0 where
+  pub same : length new ≡ length old
+  pub written : Fits rows b stride places (length src) (length coeffs) (length old) → (i p : ℕ) → i < rows → p < b
+      → cell b new i p ≡ product b src places coeffs stride i p
+  pub kept : (Fits rows b stride places (length src) (length coeffs) (length old) → ⊥) → new ≡ old
+
+-- new is old plus the product; where it does not fit, nothing is written
+pub record Added (rows b stride : ℕ) (src places coeffs old new : List ℕ) : Type 0 where
+  pub same : length new ≡ length old
+  pub written : Fits rows b stride places (length src) (length coeffs) (length old) → (i p : ℕ) → i < rows → p < b
+      → cell b new i p ≡ add (cell b old i p) (product b src places coeffs stride i p)
+  pub kept : (Fits rows b stride places (length src) (length coeffs) (length old) → ⊥) → new ≡ old
+
+-- ---- of the private functions; no statement about a call rests on these names
+
+-- each of the rows of coefficients ends within them
+abbrev pub Rows : ℕ → ℕ → ℕ → ℕ → Type 0
+Rows rows width stride coeffs = (i : ℕ) → i < rows → i * stride + width ≤ coeffs
+
+-- each place names a block of b bytes that src has
+abbrev pub Inside : ℕ → List ℕ → ℕ → Type 0
+Inside b places src = (j : ℕ) → j < length places → suc (getD places j 0) * b ≤ src
+
+-- whether P holds, as a test
+pub record Decided (P : Type 0) (answer : Bool) : Type 0 where
+  pub holds : answer ≡ true → P
+  pub fails : answer ≡ false → P → ⊥
+
+-- xs + c·ys, byte by byte
+unfoldable pub plusMultiple : List ℕ → ℕ → List ℕ → List ℕ
+plusMultiple xs c ys = tabulate (length xs) (λ p. add (getD xs p 0) (mul c (getD ys p 0)))
+
+-- byte p of the sum of the blocks of src at the given places, each times its coefficient
+unfoldable pub combined : ℕ → List ℕ → List ℕ → List ℕ → ℕ → ℕ
+combined b src places coeffs p = sum (length places) (λ j. mul (getD coeffs j 0) (cell b src (getD places j 0) p))
+
+-- new is old plus such a sum, of blocks as long as old
+pub record Accumulated (src places coeffs old new : List ℕ) : Type 0 where
+  pub same : length new ≡ length old
+  pub sums : (p : ℕ) → p < length old → getD new p 0 ≡ add (getD old p 0) (combined (length old) src places coeffs p)

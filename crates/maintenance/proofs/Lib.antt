@@ -1,0 +1,6 @@
+mod Values
+mod PairBlocks
+mod Placing
+mod Searching
+mod Served
+mod Rearranged

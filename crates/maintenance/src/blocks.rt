@@ -1,0 +1,30 @@
+// The blocks of a set's nodes.
+use kernels::copy_block;
+use params::NodeSet;
+ghost use mathlib.Core.Path.{_≡_};
+ghost use lib.ListN.{length};
+ghost use Rattle.maintenance.specs.Cores.{Listing, Put};
+
+pub(crate) fn wide(x: u8) -> usize
+    ensures { λ r. ⌜ r ≡ x ⌝ }
+{
+    x as usize
+}
+
+// The blocks of the set's nodes, in rising order, become fresh's.
+pub(crate) fn put_blocks(codeword: &mut [u8], set: NodeSet, fresh: &[u8], b: usize)
+    requires { ⌜ Listing b (set .0) (length (now codeword)) (length (now fresh)) ⌝ }
+    ensures { λ _. ⌜ Put b (set .0) (now (fresh .entry)) (now (codeword .entry)) (now (codeword .exit)) ⌝ }
+{
+    let count = set.size();
+    let nodes = set.list();
+    let mut i = 0;
+    while i < count {
+        let at = (wide(nodes[i]) - 1) * b;
+        let end = at + b;
+        let start = i * b;
+        let stop = start + b;
+        copy_block(&mut codeword[at..end], &fresh[start..stop]);
+        i += 1;
+    }
+}

@@ -1,0 +1,69 @@
+// Check: whether all blocks come from the pair of the first nodes.
+use crate::blocks::wide;
+use crate::recomputing::recompute;
+use code::Verdict;
+use gates::check_gate;
+use kernels::differs;
+use params::Node;
+use params::NodeSet;
+use params::Params;
+ghost use mathlib.Core.Path.{_≡_};
+ghost use lib.ListN.{length};
+ghost use Rattle.gates.specs.Valid.{CheckAccepted};
+ghost use Rattle.code.specs.Calls.{CheckPost};
+ghost use Rattle.maintenance.specs.Cores.{Listing, Searched, Served};
+
+// The lowest node whose block differs from that of the pair of the first nodes.
+pub fn check(a: Params, codeword: &[u8]) -> Verdict
+    ensures { λ r. ⌜ CheckPost a (now (codeword .entry)) r ⌝ }
+{
+    let gate = check_gate(a, codeword.len());
+    if gate != 0 {
+        return Verdict::Refused(gate);
+    }
+    check_blocks(a, codeword)
+}
+
+// An accepted call: makes room and lends it.
+fn check_blocks(a: Params, codeword: &[u8]) -> Verdict
+    requires { ⌜ CheckAccepted a (length (now codeword)) ⌝ }
+    ensures { λ r. ⌜ Served a (now (codeword .entry)) r ⌝ }
+{
+    let mut fresh = [0u8; 32768];
+    check_within(a, codeword, &mut fresh)
+}
+
+// The nodes 1..q agree with their own pair; the others are compared with it.
+fn check_within(a: Params, codeword: &[u8], fresh: &mut [u8]) -> Verdict
+    requires { ⌜ CheckAccepted a (length (now codeword)) ⌝ }
+    requires { ⌜ length (now fresh) ≡ 32768 ⌝ }
+    ensures { λ r. ⌜ Served a (now (codeword .entry)) r ⌝ }
+{
+    let first = NodeSet(0).outside(a.working());
+    let others = first.outside(a.n);
+    let used = others.size() * a.b;
+    recompute(a, codeword, first, others, &mut fresh[..used]);
+    first_other(codeword, others, &fresh[..used], a.b)
+}
+
+// The set's lowest node whose block is not fresh's, which has them in rising order.
+fn first_other(codeword: &[u8], set: NodeSet, fresh: &[u8], b: usize) -> Verdict
+    requires { ⌜ Listing b (set .0) (length (now codeword)) (length (now fresh)) ⌝ }
+    ensures { λ r. ⌜ Searched b (set .0) (now (codeword .entry)) (now (fresh .entry)) r ⌝ }
+{
+    let count = set.size();
+    let nodes = set.list();
+    let mut i = 0;
+    while i < count {
+        let node = nodes[i];
+        let at = (wide(node) - 1) * b;
+        let end = at + b;
+        let start = i * b;
+        let stop = start + b;
+        if differs(&fresh[start..stop], &codeword[at..end]) {
+            return Verdict::Differs(Node(node));
+        }
+        i += 1;
+    }
+    Verdict::Agrees
+}

@@ -1,0 +1,94 @@
+// Blocks from parts and blocks.
+use coefficients::completion_rows;
+use coefficients::in_order;
+use coefficients::places_of;
+use kernels::add_product;
+use kernels::product;
+use params::NodeSet;
+use params::Params;
+ghost use mathlib.Core.Path.{_≡_};
+ghost use lib.ListN.{length};
+ghost use Rattle.maintenance.specs.Cores.{Extendable, Extended, Recomputable, Recomputed};
+
+// fresh := the targets' blocks, in rising order, of the pair that gives from's blocks
+pub(crate) fn recompute(
+    a: Params,
+    codeword: &[u8],
+    from: NodeSet,
+    targets: NodeSet,
+    fresh: &mut [u8],
+)
+    requires { ⌜ Recomputable a (from .0) (targets .0) (length (now codeword)) (length (now fresh)) ⌝ }
+    ensures { λ _. ⌜ Recomputed a (from .0) (targets .0) (now (codeword .entry)) (now (fresh .exit)) ⌝ }
+{
+    let q = from.size();
+    let places = places_of(from);
+    extend(
+        a.b,
+        0,
+        from,
+        targets,
+        &codeword[..0usize],
+        codeword,
+        &places[..q],
+        fresh,
+    );
+}
+
+// At each byte place message has the e leading coefficients of a polynomial, and z's blocks at the places its values at the nodes of at. out := its values
+// at the targets.
+pub(crate) fn extend(
+    b: usize,
+    e: usize,
+    at: NodeSet,
+    targets: NodeSet,
+    message: &[u8],
+    z: &[u8],
+    places: &[u8],
+    out: &mut [u8],
+)
+    requires { ⌜ Extendable b e (at .0) (targets .0) (now places) (length (now message)) (length (now z)) (length (now out)) ⌝ }
+    ensures { λ _. ⌜ Extended b e (at .0) (targets .0) (now (message .entry)) (now (z .entry)) (now (places .entry)) (now (out .exit)) ⌝ }
+{
+    let mut leading = [0u8; 1024];
+    let mut gains = [0u8; 1024];
+    extend_within(
+        b,
+        e,
+        at,
+        targets,
+        message,
+        z,
+        places,
+        &mut leading,
+        &mut gains,
+        out,
+    );
+}
+
+// The coefficients are found once, for all blocks and byte places.
+fn extend_within(
+    b: usize,
+    e: usize,
+    at: NodeSet,
+    targets: NodeSet,
+    message: &[u8],
+    z: &[u8],
+    places: &[u8],
+    leading: &mut [u8],
+    gains: &mut [u8],
+    out: &mut [u8],
+)
+    requires { ⌜ Extendable b e (at .0) (targets .0) (now places) (length (now message)) (length (now z)) (length (now out)) ⌝ }
+    requires { ⌜ (length (now leading) ≡ 1024) × (length (now gains) ≡ 1024) ⌝ }
+    ensures { λ _. ⌜ Extended b e (at .0) (targets .0) (now (message .entry)) (now (z .entry)) (now (places .entry)) (now (out .exit)) ⌝ }
+{
+    let rows = targets.size();
+    let q = at.size();
+    let first = rows * e;
+    let second = rows * q;
+    let order = in_order();
+    completion_rows(e, at, targets, &mut leading[..first], &mut gains[..second]);
+    product(out, rows, b, message, &order[..e], &leading[..first], e);
+    add_product(out, rows, b, z, places, &gains[..second], q);
+}

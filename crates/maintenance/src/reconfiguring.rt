@@ -1,0 +1,102 @@
+// Rearrangement (document 01): from one shape to another, through the blocks of a set R and with the blocks of a set W' made new.
+//
+// Outside W' the new pair has the old pair's blocks. These and the new message settle it, and so every block that is written. The others are copied.
+use crate::blocks::put_blocks;
+use crate::recomputing::extend;
+use crate::recomputing::recompute;
+use coefficients::in_order;
+use gates::reconfigure_gate;
+use kernels::copy_block;
+use params::NodeSet;
+use params::Params;
+use params::Shape;
+ghost use mathlib.Core.Path.{_≡_};
+ghost use lib.ListN.{length};
+ghost use Rattle.gates.specs.Valid.{ReconfigureAccepted};
+ghost use Rattle.code.specs.Calls.{Reconfigured, ReconfigurePost};
+
+// Writes the record of the new shape to out. The old record is only read.
+pub fn reconfigure(
+    a: Params,
+    shape: Shape,
+    codeword: &[u8],
+    from: NodeSet,
+    to: NodeSet,
+    message: &[u8],
+    out: &mut [u8],
+) -> u32
+    ensures { λ r. ⌜ ReconfigurePost a shape (now (codeword .entry)) (from .0) (to .0) (now (message .entry)) (now (out .entry)) r (now (out .exit)) ⌝ }
+{
+    let gate = reconfigure_gate(a, shape, codeword.len(), out.len(), message.len(), from, to);
+    if gate != 0 {
+        return gate;
+    }
+    rearrange(a, shape, codeword, from, to, message, out);
+    0
+}
+
+// An accepted call: makes room and lends it.
+fn rearrange(
+    a: Params,
+    shape: Shape,
+    codeword: &[u8],
+    from: NodeSet,
+    to: NodeSet,
+    message: &[u8],
+    out: &mut [u8],
+)
+    requires { ⌜ ReconfigureAccepted a shape (length (now codeword)) (length (now out)) (length (now message)) (from .0) (to .0) ⌝ }
+    ensures { λ _. ⌜ Reconfigured a shape (now (codeword .entry)) (from .0) (to .0) (now (message .entry)) (now (out .exit)) ⌝ }
+{
+    let mut z = [0u8; 32768];
+    let mut fresh = [0u8; 32768];
+    rearrange_within(
+        a,
+        shape,
+        codeword,
+        from,
+        to,
+        message,
+        &mut z,
+        &mut fresh,
+        out,
+    );
+}
+
+// z: the old pair's blocks at the nodes outside W'. fresh: the new pair's blocks in W' and above n.
+fn rearrange_within(
+    a: Params,
+    shape: Shape,
+    codeword: &[u8],
+    from: NodeSet,
+    to: NodeSet,
+    message: &[u8],
+    z: &mut [u8],
+    fresh: &mut [u8],
+    out: &mut [u8],
+)
+    requires { ⌜ ReconfigureAccepted a shape (length (now codeword)) (length (now out)) (length (now message)) (from .0) (to .0) ⌝ }
+    requires { ⌜ (length (now z) ≡ 32768) × (length (now fresh) ≡ 32768) ⌝ }
+    ensures { λ _. ⌜ Reconfigured a shape (now (codeword .entry)) (from .0) (to .0) (now (message .entry)) (now (out .exit)) ⌝ }
+{
+    let free = to.outside(shape.n);
+    let kept = to.outside(a.n);
+    let made = kept.outside(shape.n);
+    let l = free.size();
+    let old = l * a.b;
+    let new = made.size() * a.b;
+    let order = in_order();
+    recompute(a, codeword, from, free, &mut z[..old]);
+    extend(
+        a.b,
+        shape.k,
+        free,
+        made,
+        message,
+        &z[..old],
+        &order[..l],
+        &mut fresh[..new],
+    );
+    copy_block(out, codeword);
+    put_blocks(out, made, &fresh[..new], a.b);
+}

@@ -1,0 +1,60 @@
+-- By the kind. Assumes nothing.
+use mathlib.Core.Path.{sym, ap, _∙_}
+use Prim.Native.Nat.{ℕ, _+_, _*_}
+use native.Mathlib.Omega.{arith}
+use denote.Ref.{now}
+use Rattle.season_file.specs.File.{numberAt, following}
+use Rattle.season_file.specs.Parsing.{held}
+use Rattle.season_file.proofs.ByKind.{last-kind}
+use Rattle.season_file.proofs.Held.{held-is}
+use borrow.Author.Needs.{needs}
+use Rattle.season_file.proofs.parsing.following.Statement.{statement}
+use Rattle.season_file.proofs.parsing.following.Tie as tie
+
+area-requires : tie.Need-area-requires
+area-requires c κs = search needs
+
+add-number-at : tie.Need-add-number-at
+add-number-at c = search needs
+
+number-at-requires : tie.Need-number-at-requires
+number-at-requires c κs = omega (arith, last-kind {A = ℕ} _ 4 8 1 4 16 (c .match .rest), c .before .before .pre)
+
+area-requires-2 : tie.Need-area-requires-2
+area-requires-2 c κs = search needs
+
+returns : tie.Need-returns
+returns c = c .area .ensures ∙ (let s = c .before .before .before in
+    sym (ap (λ (kind : ℕ). held (following (s .args .a) (now (s .args .input)) (s .args .at) kind)) (c .before .match .keys1)))
+
+returns-2 : tie.Need-returns-2
+returns-2 c = held-is 0 (omega arith) ∙ (let s = c .before .before in
+    sym (ap (λ (kind : ℕ). held (following (s .args .a) (now (s .args .input)) (s .args .at) kind)) (c .match .keys2)))
+
+returns-3 : tie.Need-returns-3
+returns-3 c = held-is _ (search needs) ∙ (let s = c .before .before in
+    sym (ap (λ (kind : ℕ). held (following (s .args .a) (now (s .args .input)) (s .args .at) kind)) (c .match .keys3)))
+
+returns-4 : tie.Need-returns-4
+returns-4 c = held-is 0 (omega arith) ∙ (let s = c .before .before in
+    sym (ap (λ (kind : ℕ). held (following (s .args .a) (now (s .args .input)) (s .args .at) kind)) (c .match .keys4)))
+
+returns-5 : tie.Need-returns-5
+returns-5 c = let s = c .before .before .before .before in
+    let k' = numberAt (now (s .args .input)) (s .args .at + 4) in
+    c .area2 .ensures ∙ ap (λ (k : ℕ). held (k * s .args .a .b)) (c .before .number-at .ensures .0)
+    ∙ ap held (sym (last-kind (s .args .kind) (s .args .a .k * s .args .a .b) 0 (s .args .a .b) 0 (k' * s .args .a .b) (c .before .before .match .rest)))
+
+pub following-spec : {M : Type 1} → statement M
+following-spec =
+    tie.close
+    (tie.spec
+    area-requires
+    add-number-at
+    number-at-requires
+    area-requires-2
+    returns
+    returns-2
+    returns-3
+    returns-4
+    returns-5)
