@@ -1,0 +1,99 @@
+-- What each answer of check, view and the inverse gives beside its number. Assumes nothing.
+use mathlib.Core.Path.{_≡_, refl, sym, ap, _∙_, subst}
+use mathlib.Core.List.{List}
+use Prim.Native.Nat.{ℕ, _-_, _*_, _≤_}
+use native.Mathlib.Nat.{le-trans, mul-le-mul}
+use native.Mathlib.Omega.{arith}
+use lib.ListN.{length}
+use Rattle.gates.specs.Gates.{viewGate}
+use Rattle.gates.specs.Valid.{ViewAccepted}
+use Rattle.params.specs.declared.Node.{Node}
+use Rattle.params.specs.declared.Params.{Params}
+use Rattle.matrix.specs.Invert.{InvertPost, number, columnNumber, Proper}
+use Rattle.matrix.specs.declared.Inversion.{Inversion}
+use Rattle.matrix.specs.declared.Inversion.the-variants as inversion
+use Rattle.code.specs.Calls.{CheckPost}
+use Rattle.code.specs.declared.Verdict.the-variants.{Refused, Agrees, Differs}
+use Rattle.jirvents.specs.Exports.{CheckGave, ViewGave, InvertGave}
+
+pub check-refused : (a : Params) (codeword : List ℕ) (old q : ℕ) → CheckPost a codeword (Refused q) → CheckGave a codeword old q old
+check-refused a codeword old q post =
+    record {
+      verdict = Refused q;
+      post = post;
+      answers = refl;
+      gave = record { served = λ z. absurd (post .1 z); refused = λ _. refl };
+    }
+
+pub check-agrees : (a : Params) (codeword : List ℕ) (old : ℕ) → CheckPost a codeword Agrees → CheckGave a codeword old 0 0
+check-agrees a codeword old post =
+    record {
+      verdict = Agrees;
+      post = post;
+      answers = refl;
+      gave = record { served = λ _. refl; refused = λ ne. absurd (ne refl) };
+    }
+
+pub check-differs : (a : Params) (codeword : List ℕ) (old : ℕ) (i : Node) → CheckPost a codeword (Differs i) → CheckGave a codeword old 0 (i .0)
+check-differs a codeword old i post =
+    record {
+      verdict = Differs i;
+      post = post;
+      answers = refl;
+      gave = record { served = λ _. refl; refused = λ ne. absurd (ne refl) };
+    }
+
+pub invert-inverted : (s : ℕ) (m old new : List ℕ) (column : ℕ) (answer : Inversion) → answer ≡ inversion.Inverted → InvertPost s m old answer new
+    → InvertGave s m old new column 0 column
+invert-inverted s m old new column answer e post =
+    record {
+      inversion = answer;
+      post = post;
+      answers = sym (ap number e);
+      column = λ z. absurd (omega (arith, z));
+      none = λ _. refl;
+    }
+
+pub invert-singular : (s : ℕ) (m old new : List ℕ) (column found : ℕ) (answer : Inversion) → answer ≡ inversion.Singular found
+    → InvertPost s m old answer new → InvertGave s m old new column 15 found
+invert-singular s m old new column found answer e post =
+    record {
+      inversion = answer;
+      post = post;
+      answers = sym (ap number e);
+      column = λ _. sym (ap columnNumber e);
+      none = λ ne. absurd (ne refl);
+    }
+
+pub invert-refused : (s : ℕ) (m old new : List ℕ) (column q : ℕ) (answer : Inversion) → answer ≡ inversion.Refused q → InvertPost s m old answer new
+    → InvertGave s m old new column q column
+invert-refused s m old new column q answer e post =
+    record {
+      inversion = answer;
+      post = post;
+      answers = sym (ap number e);
+      column = λ z. absurd (subst Proper e (post .proper) .1 z);
+      none = λ _. refl;
+    }
+
+pub view-refused : (a : Params) (codeword : List ℕ) (i old answer : ℕ) → answer ≡ viewGate a (length codeword) i → (answer ≡ 0 → ⊥)
+    → ViewGave a codeword i old answer old
+view-refused a codeword i old answer e ne = record { answers = e; served = λ z. absurd (ne z); refused = λ _. refl }
+
+pub view-served : (a : Params) (codeword : List ℕ) (i old answer : ℕ) → answer ≡ viewGate a (length codeword) i → answer ≡ 0
+    → ViewGave a codeword i old 0 ((i - 1) * a .b)
+view-served a codeword i old answer e z =
+    let zero : 0 ≡ viewGate a (length codeword) i = sym z ∙ e in
+    record {
+      answers = zero;
+      served = λ _. record { number = refl; served = λ _. refl; refused = λ ne. absurd (ne (sym zero)) };
+      refused = λ ne. absurd (ne refl);
+    }
+
+before-32 : (i : ℕ) → i ≤ 32 → i - 1 ≤ 32
+before-32 i h = omega (arith, h)
+
+-- a block begins within any record
+pub start-fits : (a : Params) (codeword i : ℕ) → ViewAccepted a codeword i → (i - 1) * a .b ≤ 32768
+start-fits a codeword i ok =
+    omega (arith, mul-le-mul (before-32 i (le-trans (ok .node .node-high) (ok .valid .shape .n-high))) (ok .valid .b-high))

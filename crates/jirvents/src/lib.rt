@@ -1,0 +1,217 @@
+// The library for C and Rust: each call on plain numbers and byte slices, under a name of its own. A slice is a pointer and a length there.
+// Answers are document 01's numbers.
+use access::decode;
+use access::delta;
+use access::encode;
+use access::update;
+use access::view_status;
+use code::Verdict;
+use maintenance::check;
+use maintenance::reconfigure;
+use maintenance::repair;
+use matrix::Inversion;
+use matrix::invert;
+use params::Node;
+use params::NodeSet;
+use params::Params;
+use params::Shape;
+ghost use mathlib.Core.Path.{_≡_};
+ghost use Rattle.code.specs.Calls.{EncodePost, DecodePost, DeltaPost, UpdatePost, RepairPost, ReconfigurePost};
+ghost use Rattle.jirvents.specs.Exports.{params, shape, CheckGave, ViewGave, InvertGave};
+
+// Writes the codeword of a message and a slack.
+#[no_mangle]
+pub extern "C" fn jirvents_encode(
+    k: usize,
+    r: usize,
+    w: usize,
+    n: usize,
+    b: usize,
+    message: &[u8],
+    slack: &[u8],
+    codeword: &mut [u8],
+) -> u32
+    ensures { λ z. ⌜ EncodePost (params k r w n b) (now (message .entry)) (now (slack .entry)) (now (codeword .entry)) z (now (codeword .exit)) ⌝ }
+{
+    encode(Params { k, r, w, n, b }, message, slack, codeword)
+}
+
+// Reads the message from the blocks of the nodes in from.
+#[no_mangle]
+pub extern "C" fn jirvents_decode(
+    k: usize,
+    r: usize,
+    w: usize,
+    n: usize,
+    b: usize,
+    codeword: &[u8],
+    from: u32,
+    out: &mut [u8],
+) -> u32
+    ensures { λ z. ⌜ DecodePost (params k r w n b) (now (codeword .entry)) from (now (out .entry)) z (now (out .exit)) ⌝ }
+{
+    decode(Params { k, r, w, n, b }, codeword, NodeSet(from), out)
+}
+
+// Writes what a change of the message adds to the blocks of the nodes in to.
+#[no_mangle]
+pub extern "C" fn jirvents_delta(
+    k: usize,
+    r: usize,
+    w: usize,
+    n: usize,
+    b: usize,
+    change: &[u8],
+    to: u32,
+    out: &mut [u8],
+) -> u32
+    ensures { λ z. ⌜ DeltaPost (params k r w n b) (now (change .entry)) to (now (out .entry)) z (now (out .exit)) ⌝ }
+{
+    delta(Params { k, r, w, n, b }, change, NodeSet(to), out)
+}
+
+// Adds a change of the message through the nodes in to.
+#[no_mangle]
+pub extern "C" fn jirvents_update(
+    k: usize,
+    r: usize,
+    w: usize,
+    n: usize,
+    b: usize,
+    codeword: &mut [u8],
+    change: &[u8],
+    to: u32,
+) -> u32
+    ensures { λ z. ⌜ UpdatePost (params k r w n b) (now (change .entry)) to (now (codeword .entry)) z (now (codeword .exit)) ⌝ }
+{
+    update(Params { k, r, w, n, b }, codeword, change, NodeSet(to))
+}
+
+// Writes the blocks of lost anew from those of from.
+#[no_mangle]
+pub extern "C" fn jirvents_repair(
+    k: usize,
+    r: usize,
+    w: usize,
+    n: usize,
+    b: usize,
+    codeword: &mut [u8],
+    from: u32,
+    lost: u32,
+) -> u32
+    ensures { λ z. ⌜ RepairPost (params k r w n b) from lost (now (codeword .entry)) z (now (codeword .exit)) ⌝ }
+{
+    repair(
+        Params { k, r, w, n, b },
+        codeword,
+        NodeSet(from),
+        NodeSet(lost),
+    )
+}
+
+// Writes the codeword of new parameters with a new message, through the blocks of from and with those of to made new.
+#[no_mangle]
+pub extern "C" fn jirvents_reconfigure(
+    k: usize,
+    r: usize,
+    w: usize,
+    n: usize,
+    b: usize,
+    k2: usize,
+    r2: usize,
+    w2: usize,
+    n2: usize,
+    codeword: &[u8],
+    from: u32,
+    to: u32,
+    message: &[u8],
+    out: &mut [u8],
+) -> u32
+    ensures { λ z. ⌜ ReconfigurePost (params k r w n b) (shape k2 r2 w2 n2) (now (codeword .entry)) from to (now (message .entry)) (now (out .entry)) z (now (out .exit)) ⌝ }
+{
+    let t = Shape {
+        k: k2,
+        r: r2,
+        w: w2,
+        n: n2,
+    };
+    reconfigure(
+        Params { k, r, w, n, b },
+        t,
+        codeword,
+        NodeSet(from),
+        NodeSet(to),
+        message,
+        out,
+    )
+}
+
+// Whether all blocks agree: where the answer is 0, node becomes 0 or the lowest node whose block differs.
+#[no_mangle]
+pub extern "C" fn jirvents_check(
+    k: usize,
+    r: usize,
+    w: usize,
+    n: usize,
+    b: usize,
+    codeword: &[u8],
+    node: &mut u8,
+) -> u32
+    ensures { λ z. ⌜ CheckGave (params k r w n b) (now (codeword .entry)) (now (node .entry)) z (now (node .exit)) ⌝ }
+{
+    let verdict = check(Params { k, r, w, n, b }, codeword);
+    match verdict {
+        Verdict::Refused(number) => number,
+        Verdict::Agrees => {
+            *node = 0;
+            0
+        }
+        Verdict::Differs(found) => {
+            *node = found.0;
+            0
+        }
+    }
+}
+
+// Where a node's block begins in the codeword: where the answer is 0, start becomes that place, and the block is the b bytes from there on.
+#[no_mangle]
+pub extern "C" fn jirvents_view(
+    k: usize,
+    r: usize,
+    w: usize,
+    n: usize,
+    b: usize,
+    codeword: &[u8],
+    node: u8,
+    start: &mut usize,
+) -> u32
+    ensures { λ z. ⌜ ViewGave (params k r w n b) (now (codeword .entry)) node (now (start .entry)) z (now (start .exit)) ⌝ }
+{
+    let number = view_status(Params { k, r, w, n, b }, codeword, Node(node));
+    if number != 0 {
+        return number;
+    }
+    *start = (node as usize - 1) * b;
+    0
+}
+
+// Writes the inverse of the matrix of the given side. Where the answer is 15, column becomes a column that is a sum of multiples of the others.
+#[no_mangle]
+pub extern "C" fn jirvents_invert(
+    side: usize,
+    matrix: &[u8],
+    out: &mut [u8],
+    column: &mut usize,
+) -> u32
+    ensures { λ z. ⌜ InvertGave side (now (matrix .entry)) (now (out .entry)) (now (out .exit)) (now (column .entry)) z (now (column .exit)) ⌝ }
+{
+    let answer = invert(side, matrix, out);
+    match answer {
+        Inversion::Inverted => 0,
+        Inversion::Singular(found) => {
+            *column = found;
+            15
+        }
+        Inversion::Refused(number) => number,
+    }
+}
