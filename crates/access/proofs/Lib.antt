@@ -1,6 +1,3 @@
-mod Fronts
 mod ReadBack
 mod PowerBlocks
-mod Vanishing
-mod AddedBlocks
 mod Viewed

@@ -2,12 +2,12 @@
 use mathlib.Core.Path.{_≡_, sym, ap, ap₂, _∙_, subst⁻¹}
 use mathlib.Core.Bool.{Bool, true, not, _&&_}
 use mathlib.Core.List.{List, _++_}
-use Prim.Native.Nat.{ℕ, suc, _+_, _*_, _^_, _≤_, _<_}
-use native.Mathlib.Nat.{le-refl}
+use Prim.Native.Nat.{ℕ, suc, _+_, _-_, _*_, _^_, _≤_, _<_}
+use native.Mathlib.Nat.{le-refl, le-of-eq}
 use native.Mathlib.Omega.{arith}
 use lib.Dec.{leb}
 use lib.ListN.{length, getD, take, drop, length-append, length-drop}
-use lib.Seq.{getD-take, getD-drop}
+use lib.Seq.{getD-take, getD-drop, take-all}
 use Rattle.base.specs.Seq.{cell}
 use Rattle.base.proofs.Parts.{row-ends}
 use Rattle.field.specs.Field.{add, mul, pow}
@@ -26,8 +26,7 @@ use Rattle.code.specs.Calls.{Encoded}
 use Rattle.kernels.specs.Blocks.{product, Fits, Multiplied, Added}
 use Rattle.kernels.proofs.Laws.{block-inside}
 use Rattle.coefficients.specs.Coefficients.{listed, inOrder, powerRows}
-use Rattle.coefficients.proofs.Laws.{Lists, list-at, length-powerRows, powerRows-at, first-length, first-at, fits-first, product-first}
-use Rattle.access.proofs.Fronts.{cell-front}
+use Rattle.coefficients.proofs.Laws.{cell-front, Lists, list-at, length-powerRows, powerRows-at, first-length, first-at, fits-first, product-first}
 
 -- ---- the nodes 1..n
 
@@ -111,3 +110,7 @@ module _ (a : Params) (q : ℕ) (found rows rest : List ℕ) (full : length foun
             ∙ ap (pow (point (suc j))) (omega arith))
             ∙ ap (λ (m : ℕ). sum m (λ t. mul (cell (a .b) slack t p) (pow (point (suc j)) (a .k + suc t)))) hl);
       }
+
+-- the part from k to the end, as the code lends it
+pub part-to-end : (k : ℕ) (l : List ℕ) → take (length l - k) (drop k l) ≡ drop k l
+part-to-end k l = take-all (length l - k) (drop k l) (le-of-eq (length-drop k l))

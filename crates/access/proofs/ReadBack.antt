@@ -24,8 +24,7 @@ use Rattle.code.specs.Calls.{Decoded}
 use Rattle.code.proofs.Pairs.{from-reads, pair-exists}
 use Rattle.kernels.specs.Blocks.{Fits, Multiplied}
 use Rattle.coefficients.specs.Coefficients.{placesOf, pointAt, Reads}
-use Rattle.coefficients.proofs.Laws.{place-of, fits-placed, product-placed}
-use Rattle.access.proofs.Fronts.{cell-front}
+use Rattle.coefficients.proofs.Laws.{cell-front, place-of, fits-placed, product-placed}
 
 module _ (a : Params) (from out : ℕ) (word : from < 2 ^ 32) (codeword : List ℕ) (ok : DecodeAccepted a (length codeword) out from) where
   module _ (x v : List ℕ) (gives : Gives a x v (has from) codeword) where

@@ -1,4 +1,5 @@
 // View: one node's block as a part of the lent codeword.
+use base::wide;
 use gates::view_gate;
 use params::Node;
 use params::Params;
@@ -25,10 +26,4 @@ pub fn view_status(a: Params, codeword: &[u8], node: Node) -> u32
     ensures { λ r. ⌜ r ≡ viewGate a (length (now (codeword .entry))) (node .0) ⌝ }
 {
     view_gate(a, codeword.len(), node)
-}
-
-pub(crate) fn wide(x: u8) -> usize
-    ensures { λ r. ⌜ r ≡ x ⌝ }
-{
-    x as usize
 }

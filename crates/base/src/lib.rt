@@ -1,4 +1,4 @@
-// What the crates above share: definitions and lemmas (questions at the gate, lists by their entries, computed tests), and one test on lengths.
+// What the crates above share: definitions and lemmas (questions at the gate, lists by their entries, computed tests), and two functions on numbers.
 ghost use mathlib.Core.Path.{_≡_};
 ghost use Prim.Native.Nat.{_*_};
 ghost use lib.Dec.{eqb};
@@ -14,4 +14,10 @@ pub fn is_product(length: usize, count: usize, size: usize) -> bool
         return false;
     }
     length % size == 0
+}
+
+pub fn wide(x: u8) -> usize
+    ensures { λ r. ⌜ r ≡ x ⌝ }
+{
+    x as usize
 }

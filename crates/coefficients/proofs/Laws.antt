@@ -16,6 +16,7 @@ use Rattle.base.proofs.Parts.{row-ends}
 use Rattle.field.specs.Field.{mul, pow}
 use Rattle.field.specs.FiniteSum.{sum}
 use Rattle.field.proofs.FiniteSum.{sum-ext}
+use Rattle.interpolation.proofs.Rows.{cell-take}
 use Rattle.params.specs.Nodes.{has, size}
 use Rattle.params.proofs.Sets.{length-nodes, size-count, entry}
 use Rattle.code.specs.Code.{point}
@@ -37,6 +38,11 @@ buffer-fits n new rest e = omega (arith, length-append new rest)
 
 pub buffer-count : (n : ℕ) (new rest : List ℕ) → length new ≡ n → n ≡ length (take n (new ++ rest))
 buffer-count n new rest e = sym (ap length (buffer-front n new rest e) ∙ e)
+
+-- n rows of m entries at its front
+pub cell-front : (m n : ℕ) (rows rest : List ℕ) → length rows ≡ n * m → (i j : ℕ) → i < n → j < m → cell m (rows ++ rest) i j ≡ cell m rows i j
+cell-front m n rows rest e i j hi hj =
+    sym (cell-take m n (rows ++ rest) i j hi hj) ∙ ap (λ (l : List ℕ). cell m l i j) (buffer-front (n * m) rows rest e)
 
 -- ---- a set's nodes
 

@@ -1,9 +1,7 @@
 // The library for C and Rust: each call on plain numbers and byte slices, under a name of its own. A slice is a pointer and a length there.
 // Answers are document 01's numbers.
 use access::decode;
-use access::delta;
 use access::encode;
-use access::update;
 use access::view_status;
 use code::Verdict;
 use maintenance::check;
@@ -15,6 +13,8 @@ use params::Node;
 use params::NodeSet;
 use params::Params;
 use params::Shape;
+use updates::delta;
+use updates::update;
 ghost use mathlib.Core.Path.{_≡_};
 ghost use Rattle.code.specs.Calls.{EncodePost, DecodePost, DeltaPost, UpdatePost, RepairPost, ReconfigurePost};
 ghost use Rattle.jirvents.specs.Exports.{params, shape, CheckGave, ViewGave, InvertGave};

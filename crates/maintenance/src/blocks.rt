@@ -1,15 +1,9 @@
 // The blocks of a set's nodes.
+use base::wide;
 use kernels::copy_block;
 use params::NodeSet;
-ghost use mathlib.Core.Path.{_≡_};
 ghost use lib.ListN.{length};
 ghost use Rattle.maintenance.specs.Cores.{Listing, Put};
-
-pub(crate) fn wide(x: u8) -> usize
-    ensures { λ r. ⌜ r ≡ x ⌝ }
-{
-    x as usize
-}
 
 // The blocks of the set's nodes, in rising order, become fresh's.
 pub(crate) fn put_blocks(codeword: &mut [u8], set: NodeSet, fresh: &[u8], b: usize)

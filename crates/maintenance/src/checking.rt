@@ -1,6 +1,6 @@
 // Check: whether all blocks come from the pair of the first nodes.
-use crate::blocks::wide;
 use crate::recomputing::recompute;
+use base::wide;
 use code::Verdict;
 use gates::check_gate;
 use kernels::differs;

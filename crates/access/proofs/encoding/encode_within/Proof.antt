@@ -8,8 +8,7 @@ use lib.ListN.{take}
 use lib.Seq.{length-take-le}
 use Rattle.gates.proofs.Valid.{slack-add}
 use Rattle.coefficients.proofs.Laws.{areas-fit}
-use Rattle.access.proofs.Fronts.{part-to-end}
-use Rattle.access.proofs.PowerBlocks.{all-listed, encoded}
+use Rattle.access.proofs.PowerBlocks.{all-listed, encoded, part-to-end}
 use Rattle.access.proofs.encoding.encode_within.Statement.{statement}
 use Rattle.access.proofs.encoding.encode_within.Tie as tie
 

@@ -1,5 +1,6 @@
-// Difference and change: what a change of the message adds to the blocks of the nodes that it writes, so that the others keep theirs.
-use crate::viewing::wide;
+// Document 01's difference and change: what a change of the message adds to the blocks of the nodes that it writes, so that the others keep theirs. Each is its
+// gate, and then a private core: a small matrix of coefficients is found once and applied to blocks by one product.
+use base::wide;
 use coefficients::completion_rows;
 use coefficients::in_order;
 use gates::delta_gate;
@@ -13,7 +14,7 @@ ghost use Prim.Native.Nat.{_*_, _≤_};
 ghost use lib.ListN.{length};
 ghost use Rattle.gates.specs.Valid.{DeltaAccepted, UpdateAccepted};
 ghost use Rattle.code.specs.Calls.{DeltaPost, UpdatePost, Differences, Updated};
-ghost use Rattle.access.specs.Adding.{Spread, Addable};
+ghost use Rattle.updates.specs.Adding.{Spread, Addable};
 
 // The differences that the change makes at the nodes of `to`, in rising order of the nodes. A refusal leaves out as it was.
 pub fn delta(a: Params, change: &[u8], to: NodeSet, out: &mut [u8]) -> u32

@@ -5,10 +5,10 @@ use native.Mathlib.Omega.{arith}
 use borrow.Author.Needs.{needs}
 use denote.Ref.{now}
 use lib.ListN.{length}
-use Rattle.access.specs.Adding.{Spread}
-use Rattle.access.proofs.AddedBlocks.{spread-none, inside, spread-more}
-use Rattle.access.proofs.updating.add_blocks.Statement.{statement}
-use Rattle.access.proofs.updating.add_blocks.Tie as tie
+use Rattle.updates.specs.Adding.{Spread}
+use Rattle.updates.proofs.AddedBlocks.{spread-none, inside, spread-more}
+use Rattle.updates.proofs.add_blocks.Statement.{statement}
+use Rattle.updates.proofs.add_blocks.Tie as tie
 
 abbrev Inv-loop : tie.InvT-loop
 Inv-loop codeword₀ nodes fresh b count left₀ codeword left = (left ≤ length nodes) × Spread b nodes fresh left codeword₀ codeword

@@ -28,8 +28,7 @@ use Rattle.code.specs.Calls.{Vanishes, Differences}
 use Rattle.code.proofs.Pairs.{spread-exists}
 use Rattle.kernels.specs.Blocks.{Fits, Multiplied}
 use Rattle.coefficients.specs.Coefficients.{listed, inOrder, pointAt, Extends, Roomy}
-use Rattle.coefficients.proofs.Laws.{fits-first, product-first}
-use Rattle.access.proofs.Fronts.{cell-front}
+use Rattle.coefficients.proofs.Laws.{fits-first, product-first, cell-front}
 
 module _ (a : Params) (d old : List ℕ) (to other : ℕ) (word : to < 2 ^ 32) (other-word : other < 2 ^ 32)
     (ok : DeltaAccepted a (length d) (length old) to) (is : (i : ℕ) → has other i ≡ (outside (a .n) to i && leb i 32)) where

@@ -7,9 +7,9 @@ use denote.Ref.{now}
 use lib.Seq.{length-take-le}
 use Rattle.gates.proofs.Valid.{slack-le}
 use Rattle.coefficients.proofs.Laws.{areas-fit}
-use Rattle.access.proofs.Vanishing.{roomy, differences}
-use Rattle.access.proofs.updating.write_within.Statement.{statement}
-use Rattle.access.proofs.updating.write_within.Tie as tie
+use Rattle.updates.proofs.Vanishing.{roomy, differences}
+use Rattle.updates.proofs.write_within.Statement.{statement}
+use Rattle.updates.proofs.write_within.Tie as tie
 
 word : (c : tie.Start) → c .args .to .0 < 2 ^ 32
 word c = omega arith

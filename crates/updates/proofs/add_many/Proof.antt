@@ -1,8 +1,8 @@
 -- At most 32 differences of at most 1,024 bytes. Assumes nothing.
 use native.Mathlib.Nat.{le-trans, mul-le-mul}
 use borrow.Author.Needs.{needs}
-use Rattle.access.proofs.updating.add_many.Statement.{statement}
-use Rattle.access.proofs.updating.add_many.Tie as tie
+use Rattle.updates.proofs.add_many.Statement.{statement}
+use Rattle.updates.proofs.add_many.Tie as tie
 
 slice-aggregate-add-within : tie.Need-slice-aggregate-add-within
 slice-aggregate-add-within c = search needs

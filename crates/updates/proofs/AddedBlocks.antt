@@ -20,7 +20,7 @@ use Rattle.kernels.specs.Blocks.{plus}
 use Rattle.kernels.proofs.Laws.{plus-length, plus-at}
 use Rattle.coefficients.specs.Coefficients.{listed}
 use Rattle.coefficients.proofs.Laws.{length-listed, Lists, front-is}
-use Rattle.access.specs.Adding.{Spread, Addable}
+use Rattle.updates.specs.Adding.{Spread, Addable}
 
 pub spread-none : (b : ℕ) (nodes fresh l : List ℕ) → Spread b nodes fresh (length nodes) l l
 spread-none b nodes fresh l = record { same = refl; done = λ i p h hi hp. absurd (omega arith); rest = λ j p h hp. refl }

@@ -3,8 +3,8 @@ use mathlib.Core.Path.{refl, sym, _∙_}
 use Rattle.gates.proofs.Valid.{delta-accepted}
 use Rattle.code.proofs.Posts.{served, refused}
 use borrow.Author.Needs.{needs}
-use Rattle.access.proofs.updating.delta.Statement.{statement}
-use Rattle.access.proofs.updating.delta.Tie as tie
+use Rattle.updates.proofs.delta.Statement.{statement}
+use Rattle.updates.proofs.delta.Tie as tie
 
 delta-gate-requires : tie.Need-delta-gate-requires
 delta-gate-requires c κs = search needs

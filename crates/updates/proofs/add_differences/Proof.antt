@@ -1,8 +1,8 @@
 -- The differences' bytes fit a usize; either buffer has room for them. Assumes nothing.
 use borrow.Author.Needs.{needs}
 use Rattle.gates.proofs.Valid.{blocks-fit}
-use Rattle.access.proofs.updating.add_differences.Statement.{statement}
-use Rattle.access.proofs.updating.add_differences.Tie as tie
+use Rattle.updates.proofs.add_differences.Statement.{statement}
+use Rattle.updates.proofs.add_differences.Tie as tie
 
 mul-if1 : tie.Need-mul-if1
 mul-if1 c = let v = c .before .before .before .pre .valid in blocks-fit v _ (v .shape .w-le-n)

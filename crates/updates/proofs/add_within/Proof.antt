@@ -8,9 +8,9 @@ use lib.ListN.{length}
 use lib.Seq.{length-take-le}
 use Rattle.code.specs.Calls.{Differences}
 use Rattle.coefficients.proofs.Laws.{buffer-front, buffer-count}
-use Rattle.access.proofs.AddedBlocks.{delta-served, addable, updated}
-use Rattle.access.proofs.updating.add_within.Statement.{statement}
-use Rattle.access.proofs.updating.add_within.Tie as tie
+use Rattle.updates.proofs.AddedBlocks.{delta-served, addable, updated}
+use Rattle.updates.proofs.add_within.Statement.{statement}
+use Rattle.updates.proofs.add_within.Tie as tie
 
 word : (c : tie.Start) → c .args .to .0 < 2 ^ 32
 word c = omega arith

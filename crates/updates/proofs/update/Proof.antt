@@ -3,8 +3,8 @@ use mathlib.Core.Path.{refl, sym, _∙_}
 use Rattle.gates.proofs.Valid.{update-accepted}
 use Rattle.code.proofs.Posts.{served, refused}
 use borrow.Author.Needs.{needs}
-use Rattle.access.proofs.updating.update.Statement.{statement}
-use Rattle.access.proofs.updating.update.Tie as tie
+use Rattle.updates.proofs.update.Statement.{statement}
+use Rattle.updates.proofs.update.Tie as tie
 
 update-gate-requires : tie.Need-update-gate-requires
 update-gate-requires c κs = search needs

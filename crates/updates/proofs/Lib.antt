@@ -1,0 +1,2 @@
+mod Vanishing
+mod AddedBlocks
