@@ -2,6 +2,6 @@ pub mod Invariant
 pub mod Demand3
 pub mod Demands
 pub mod Whole
-mod Computed
+pub mod Computed
 pub mod Figures
 pub mod Example

@@ -6,12 +6,15 @@
 
 pub mod blocks;
 pub mod calls;
+pub mod cases;
+pub mod corpus;
 pub mod field;
 pub mod gate;
 pub mod matrix;
 pub mod pair;
 pub mod polynomial;
 pub mod season;
+pub mod vectors;
 
 pub use calls::{change, check, difference, reading, rearrangement, rebuild, setup, view};
 pub use gate::{Arrangement, Shape};

@@ -1,0 +1,228 @@
+-- What the calls leave of a buffer whose front they were lent, as the effect of a file's event. Assumes nothing.
+use mathlib.Core.Path.{_≡_, refl, sym, ap, _∙_, subst, subst₂}
+use mathlib.Core.Bool.{Bool}
+use mathlib.Core.List.{List, [], _++_}
+use mathlib.Core.Logic.{⊎-elim}
+use Prim.Native.Nat.{ℕ, zero, suc, _+_, _-_, _*_, _≤_, _<_}
+use native.Mathlib.Omega.{arith}
+use lib.Dec.{eqb}
+use lib.ListN.{length, getD, take, drop, length-replicate}
+use lib.Seq.{length-take-le, drop-drop}
+use borrow.Author.Tests.{eq-eqb, ne-eqb}
+use borrow.Rule.Slice.PartMut.{drop-put}
+use Rattle.base.specs.Seq.{cell}
+use Rattle.base.proofs.Cases.{eq-or}
+use Rattle.base.proofs.Parts.{partOf, length-partOf, putBlock, putBlock-here, putBlock-other, putBlock-length, row-ends}
+use Rattle.base.proofs.Seq.{cells-ext, cell-blocks, length-blocks}
+use Rattle.interpolation.proofs.Rows.{cell-take}
+use Rattle.gates.specs.Gates.{damageGate}
+use Rattle.gates.specs.Valid.{Valid}
+use Rattle.params.specs.declared.Params.{Params}
+use Rattle.params.specs.declared.Shape.{Shape}
+use Rattle.params.specs.Params.{reshaped}
+use Rattle.gates.proofs.Valid.{reconfigure-accepted}
+use Rattle.code.specs.Calls.{UpdatePost, RepairPost, DecodePost, ReconfigurePost, Reconfigured}
+use Rattle.kernels.specs.Blocks.{over}
+use Rattle.kernels.proofs.Laws.{over-same}
+use Rattle.ledger.specs.Ledger as ledger
+use Rattle.ledger.specs.Ledger.{Held, gate, Step, chosen, moved, damagedWord, damagedHeld, updated, repaired, decoded, reconfigured, damaged}
+use Rattle.season_file.specs.File.{bytesOf}
+use Rattle.season_file.specs.Answers.{answerOf}
+use Rattle.season_file.specs.declared.Event.{Event}
+use Rattle.season_file.specs.declared.Event.the-variants.{Update, Repair, Damage, Decode, Reconfigure}
+use Rattle.season_file.specs.declared.UpdateFields.{UpdateFields}
+use Rattle.season_file.specs.declared.RepairFields.{RepairFields}
+use Rattle.season_file.specs.declared.DamageFields.{DamageFields}
+use Rattle.season_file.specs.declared.DecodeFields.{DecodeFields}
+use Rattle.season_file.specs.declared.ReconfigureFields.{ReconfigureFields}
+use Rattle.season_run.specs.Season.{listed, Prints, heldIn}
+use Rattle.season_run.specs.Turning.{Ready, Effected}
+use Rattle.season_run.proofs.Events.{span-length, answer-is-gate}
+use Rattle.season_run.proofs.Fronts.{blocks-room, front-take, front-drop, front-length, over-front, part-is}
+
+-- an event that leaves the given record at the front
+fronted : (a a′ : Params) (input : List ℕ) (e : Event) (buffer new message : List ℕ) → a′ .n * a′ .b ≤ length buffer → length new ≡ a′ .n * a′ .b
+    → Prints (heldIn a buffer) e message → Step (heldIn a buffer) (listed a input e) (record { params = a′; codeword = new })
+    → Effected a input e buffer a′ message (new ++ drop (a′ .n * a′ .b) buffer)
+fronted a a′ input e buffer new message fits full prints step =
+    record {
+      prints = prints;
+      step =
+          subst (λ (l : List ℕ). Step (heldIn a buffer) (listed a input e) (record { params = a′; codeword = l }))
+          (sym (front-take (a′ .n * a′ .b) buffer new fits full)) step;
+      length-is = front-length (a′ .n * a′ .b) buffer new fits full;
+      rest = front-drop (a′ .n * a′ .b) buffer new fits full;
+    }
+
+-- one that leaves all as it was
+pub unmoved : (a : Params) (input : List ℕ) (e : Event) (buffer message : List ℕ) → Prints (heldIn a buffer) e message
+    → Step (heldIn a buffer) (listed a input e) (heldIn a buffer) → Effected a input e buffer a message buffer
+unmoved a input e buffer message prints step = record { prints = prints; step = step; length-is = refl; rest = refl }
+
+-- ---- change and rebuild
+
+pub update-applied : (a : Params) (input : List ℕ) (f : UpdateFields) (buffer new : List ℕ) (answer : ℕ) → Ready a input (Update f) buffer
+    → length new ≡ a .n * a .b
+    → UpdatePost a (take (f .change .at + f .change .count - f .change .at) (drop (f .change .at) input)) (f .to .0) (take (a .n * a .b) buffer) answer new
+    → Effected a input (Update f) buffer a [] (new ++ drop (a .n * a .b) buffer)
+update-applied a input f buffer new answer h full post =
+    fronted a a input (Update f) buffer new [] (omega (arith, blocks-room a (a .n) (h .valid) (omega arith), h .room)) full refl
+    (updated answer new
+    (subst (λ (d : List ℕ). UpdatePost a d (f .to .0) (take (a .n * a .b) buffer) answer new) (part-is input (f .change)) post))
+
+pub repair-applied : (a : Params) (input : List ℕ) (f : RepairFields) (buffer new : List ℕ) (answer : ℕ) → Valid a → length buffer ≡ 32768
+    → length new ≡ a .n * a .b → RepairPost a (f .from .0) (f .lost .0) (take (a .n * a .b) buffer) answer new
+    → Effected a input (Repair f) buffer a [] (new ++ drop (a .n * a .b) buffer)
+repair-applied a input f buffer new answer v room full post =
+    fronted a a input (Repair f) buffer new [] (omega (arith, blocks-room a (a .n) v (omega arith))) full refl (repaired answer new post)
+
+-- ---- damage
+
+module _ (a : Params) (input : List ℕ) (f : DamageFields) (buffer : List ℕ) (h : Ready a input (Damage f) buffer) (j : ℕ) (node : f .node .0 ≡ suc j)
+    (below : j < a .n) where
+  fits : a .n * a .b ≤ length buffer
+  fits = omega (arith, blocks-room a (a .n) (h .valid) (omega arith), h .room)
+
+  given : length (bytesOf input (f .block)) ≡ a .b
+  given = span-length input (f .block) (h .inside) ∙ h .counted
+
+  module _ (block : List ℕ) (full : length block ≡ a .b) where
+    -- byte p of block i after the damage
+    after : ℕ → ℕ → ℕ
+    after i p = chosen (eqb (suc i) (f .node .0)) (getD block p 0) (cell (a .b) (take (a .n * a .b) buffer) i p)
+
+    damaged-cell : (i p : ℕ) → i < a .n → p < a .b → cell (a .b) (putBlock (a .b) j buffer block) i p ≡ after i p
+    unfolding after
+    damaged-cell i p hi hp =
+        ⊎-elim
+        (λ (e : i ≡ j).
+        ap (λ (k : ℕ). cell (a .b) (putBlock (a .b) j buffer block) k p) e ∙ putBlock-here (a .b) (a .n) j buffer block below fits full p hp
+        ∙ sym (ap (λ (t : Bool). chosen t (getD block p 0) (cell (a .b) (take (a .n * a .b) buffer) i p)) (eq-eqb (suc i) (f .node .0) (ap suc e ∙ sym node))))
+        (λ (ne : i ≡ j → ⊥).
+        putBlock-other (a .b) (a .n) j buffer block below fits full i p ne hp ∙ sym (cell-take (a .b) (a .n) buffer i p hi hp)
+        ∙ sym (ap (λ (t : Bool). chosen t (getD block p 0) (cell (a .b) (take (a .n * a .b) buffer) i p)) (ne-eqb (suc i) (f .node .0) (λ q. ne (omega arith)))))
+        (eq-or i j)
+
+    damaged-word : take (a .n * a .b) (putBlock (a .b) j buffer block) ≡ damagedWord a (take (a .n * a .b) buffer) (f .node .0) block
+    unfolding damagedWord after
+    damaged-word =
+        cells-ext (a .b) (a .n) _ _ (h .valid .b-low)
+        (length-take-le (a .n * a .b) _ (omega (arith, fits, putBlock-length (a .b) (a .n) j buffer block below fits full)))
+        (length-blocks (a .b) (a .n) _)
+        (λ i p hi hp. cell-take (a .b) (a .n) _ i p hi hp ∙ damaged-cell i p hi hp ∙ sym (cell-blocks (a .b) (a .n) after i p hi hp))
+
+    behind : drop (a .n * a .b) (putBlock (a .b) j buffer block) ≡ drop (a .n * a .b) buffer
+    behind =
+        let ends : j * a .b + a .b ≤ a .n * a .b = row-ends (a .n) j (a .b) (a .n * a .b) below (omega arith) in
+        let e : j * a .b + a .b + (a .n * a .b - (j * a .b + a .b)) ≡ a .n * a .b = omega arith in
+        ap (λ (m : ℕ). drop m (putBlock (a .b) j buffer block)) (sym e)
+        ∙ sym (drop-drop (a .n * a .b - (j * a .b + a .b)) (j * a .b + a .b) (putBlock (a .b) j buffer block))
+        ∙ ap (drop (a .n * a .b - (j * a .b + a .b)))
+        (drop-put (j * a .b) (j * a .b + a .b) buffer block (omega arith) (omega (arith, fits)) (full ∙ omega arith))
+        ∙ drop-drop (a .n * a .b - (j * a .b + a .b)) (j * a .b + a .b) buffer ∙ ap (λ (m : ℕ). drop m buffer) e
+
+  pub damage-applied : answerOf a (Damage f) ≡ 0 → (new : List ℕ)
+      → new ≡ over (partOf (a .b) j buffer) (take (f .block .at + f .block .count - f .block .at) (drop (f .block .at) input))
+      → Effected a input (Damage f) buffer a [] (putBlock (a .b) j buffer new)
+  unfolding answerOf
+  damage-applied z new e =
+      let same : new ≡ bytesOf input (f .block) =
+      e ∙ over-same (partOf (a .b) j buffer) _
+      (ap length (part-is input (f .block)) ∙ given ∙ sym (length-partOf (a .b) j buffer (row-ends (a .n) j (a .b) (length buffer) below fits)))
+      ∙ part-is input (f .block) in
+      let full : length new ≡ a .b = ap length same ∙ given in
+      record {
+        prints = refl;
+        step =
+            subst₂ (λ (x l : List ℕ). Step (heldIn a buffer) (ledger.damage (f .node .0) x) (record { params = a; codeword = l })) same
+            (sym (damaged-word new full))
+            (subst (λ (q : ℕ). Step (heldIn a buffer) (ledger.damage (f .node .0) new) (damagedHeld q (heldIn a buffer) (f .node .0) new)) z damaged);
+        length-is = putBlock-length (a .b) (a .n) j buffer new below fits full;
+        rest = behind new full;
+      }
+
+-- ---- reading
+
+pub decode-applied : (a : Params) (input : List ℕ) (f : DecodeFields) (buffer room out : List ℕ) (answer : ℕ) → Valid a → length buffer ≡ 32768
+    → length room ≡ 32768 → answerOf a (Decode f) ≡ 0 → length out ≡ a .k * a .b
+    → DecodePost a (take (a .n * a .b) buffer) (f .from .0) (take (a .k * a .b) room) answer out
+    → Effected a input (Decode f) buffer a (take (a .k * a .b) (out ++ drop (a .k * a .b) room)) buffer
+unfolding answerOf
+decode-applied a input f buffer room out answer v hb hr z full post =
+    let nb : a .n * a .b ≤ 32768 = blocks-room a (a .n) v (omega arith) in
+    let kb : a .k * a .b ≤ 32768 = blocks-room a (a .k) v (omega arith) in
+    let lb = length-take-le (a .n * a .b) buffer (omega arith) in
+    let lr = length-take-le (a .k * a .b) room (omega arith) in
+    let lz = length-replicate {A = ℕ} (a .k * a .b) 0 in
+    let zero : answer ≡ 0 = post .number ∙ cc in
+    let d = post .served zero in
+    unmoved a input (Decode f) buffer _
+    (subst (λ (m : List ℕ). Prints (heldIn a buffer) (Decode f) m) (sym (front-take (a .k * a .b) room out (omega arith) full))
+    (record { served = λ _. d; refused = λ ne. absurd (ne z) }))
+    (decoded 0 out (record { number = cc; served = λ _. d; refused = λ ne. absurd (ne refl) }))
+
+-- ---- rearrangement
+
+module _ (a : Params) (input : List ℕ) (f : ReconfigureFields) (z : answerOf a (Reconfigure f) ≡ 0) where
+  pub new-valid : Valid (reshaped a (f .shape))
+  unfolding answerOf
+  new-valid = reconfigure-accepted a (f .shape) _ _ _ _ _ .0 z .valid-new
+
+  pub reconfigure-applied : (buffer room new : List ℕ) (answer : ℕ) → Ready a input (Reconfigure f) buffer → length room ≡ 32768
+      → length new ≡ f .shape .n * a .b
+      → ReconfigurePost a (f .shape) (take (a .n * a .b) buffer) (f .from .0) (f .to .0)
+      (take (f .message .at + f .message .count - f .message .at) (drop (f .message .at) input)) (take (f .shape .n * a .b) room) answer new
+      → Effected a input (Reconfigure f) buffer (reshaped a (f .shape)) []
+      (over buffer (take (f .shape .n * a .b) (new ++ drop (f .shape .n * a .b) room)))
+  unfolding answerOf
+  reconfigure-applied buffer room new answer h hr full post =
+      let nb : a .n * a .b ≤ 32768 = blocks-room a (a .n) (h .valid) (omega arith) in
+      let nb′ : f .shape .n * a .b ≤ 32768 = blocks-room (reshaped a (f .shape)) (f .shape .n) new-valid (omega arith) in
+      let lb = length-take-le (a .n * a .b) buffer (omega (arith, h .room)) in
+      let lr = length-take-le (f .shape .n * a .b) room (omega arith) in
+      let lz = length-replicate {A = ℕ} (f .shape .n * a .b) 0 in
+      let pi = part-is input (f .message) in
+      let lm = span-length input (f .message) (h .inside) ∙ h .counted in
+      let zero : answer ≡ 0 = post .number ∙ cc in
+      let d =
+      subst (λ (x : List ℕ). Reconfigured a (f .shape) (take (a .n * a .b) buffer) (f .from .0) (f .to .0) x new) pi (post .served zero) in
+      subst (Effected a input (Reconfigure f) buffer (reshaped a (f .shape)) [])
+      (sym
+      (ap (over buffer) (front-take (f .shape .n * a .b) room new (omega arith) full) ∙ over-front (f .shape .n * a .b) buffer new (omega (arith, h .room)) full))
+      (fronted a (reshaped a (f .shape)) input (Reconfigure f) buffer new [] (omega (arith, h .room)) full refl
+      (reconfigured 0 new (record { number = cc; served = λ _. d; refused = λ ne. absurd (ne refl) })))
+
+-- ---- a refused event
+
+kept-damage : (q : ℕ) (h : Held) (i : ℕ) (bytes : List ℕ) → (q ≡ 0 → ⊥) → damagedHeld q h i bytes ≡ h
+kept-damage zero h i bytes ne = absurd (ne refl)
+kept-damage (suc q) h i bytes ne = refl
+
+kept-move : (q : ℕ) (h : Held) (a : Params) (t : Shape) (new : List ℕ) → (q ≡ 0 → ⊥) → moved q h a t new ≡ h
+kept-move zero h a t new ne = absurd (ne refl)
+kept-move (suc q) h a t new ne = refl
+
+-- its call would leave all as it was
+pub refused-step : (h : Held) (input : List ℕ) (e : Event) → (gate h (listed (h .params) input e) ≡ 0 → ⊥) → Step h (listed (h .params) input e) h
+refused-step h input (Update f) ne = updated _ _ (record { number = refl; served = λ z. absurd (ne z); refused = λ _. refl })
+refused-step h input (Repair f) ne = repaired _ _ (record { number = refl; served = λ z. absurd (ne z); refused = λ _. refl })
+refused-step h input (Damage f) ne =
+    subst (Step h (listed (h .params) input (Damage f))) (kept-damage (damageGate (h .params .n) (f .node .0)) h (f .node .0) _ ne) damaged
+refused-step h input (Decode f) ne = decoded _ _ (record { number = refl; served = λ z. absurd (ne z); refused = λ _. refl })
+refused-step h input (Reconfigure f) ne =
+    subst (Step h (listed (h .params) input (Reconfigure f))) (kept-move _ h (h .params) (f .shape) _ ne)
+    (reconfigured _ _ (record { number = refl; served = λ z. absurd (ne z); refused = λ _. refl }))
+
+refused-prints : (h : Held) (e : Event) → (answerOf (h .params) e ≡ 0 → ⊥) → Prints h e []
+refused-prints h (Update f) ne = refl
+refused-prints h (Repair f) ne = refl
+refused-prints h (Damage f) ne = refl
+refused-prints h (Decode f) ne = record { served = λ z. absurd (ne z); refused = λ _. refl }
+refused-prints h (Reconfigure f) ne = refl
+
+pub refused-applied : (a : Params) (input : List ℕ) (e : Event) (buffer : List ℕ) → Ready a input e buffer → (answerOf a e ≡ 0 → ⊥)
+    → Effected a input e buffer a [] buffer
+refused-applied a input e buffer h ne =
+    let nb : a .n * a .b ≤ 32768 = blocks-room a (a .n) (h .valid) (omega arith) in
+    let g = answer-is-gate (heldIn a buffer) input e (length-take-le (a .n * a .b) buffer (omega (arith, h .room))) (h .inside) (h .counted) in
+    unmoved a input e buffer [] (refused-prints (heldIn a buffer) e ne) (refused-step (heldIn a buffer) input e (λ z. ne (g ∙ z)))

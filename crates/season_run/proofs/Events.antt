@@ -1,0 +1,136 @@
+-- What the file's definitions say of an event that was found: its blocks stand within the input, its bytes are bytes and its sets have 32 bits, and its answer is
+-- the number of the list's event. By cases on its kind. Assumes nothing.
+use mathlib.Core.Path.{_≡_, refl, _∙_, subst}
+use mathlib.Core.Bool.{Bool, true, false, _||_}
+use mathlib.Core.List.{List}
+use Prim.Native.Nat.{ℕ, _+_, _*_, _^_, _≤_, _<_}
+use native.Mathlib.Omega.{arith}
+use lib.Dec.{ltb, eqb}
+use lib.ListN.{length, getD, drop, replicate, length-drop, length-replicate}
+use lib.Seq.{length-take-le}
+use borrow.Author.Tests.{ltb-false}
+use Rattle.base.proofs.Seq.{tabulate-zeros}
+use Rattle.field.specs.Field.{Bytes}
+use Rattle.interpolation.proofs.Rows.{bytes-tabulate, bytes-take, bytes-drop}
+use Rattle.params.specs.declared.Params.{Params}
+use Rattle.ledger.specs.Ledger.{Held, Typed, gate}
+use Rattle.season_file.specs.File.{choose, numberAt, choiceAt, bytesOf, eventsCountAt, openingOf, eventAt, endOf, itemAt}
+use Rattle.season_file.specs.Answers.{answerOf}
+use Rattle.season_file.specs.declared.Span.{Span}
+use Rattle.season_file.specs.declared.Event.{Event}
+use Rattle.season_file.specs.declared.Event.the-variants.{Update, Repair, Damage, Decode, Reconfigure}
+use Rattle.season_file.specs.declared.Fault.{Fault}
+use Rattle.season_file.specs.declared.Found.{Found}
+use Rattle.season_file.specs.declared.Header.{Header}
+use Rattle.season_file.specs.declared.Item.the-variants as item
+use Rattle.season_file.specs.declared.Opening.the-variants as opening
+use Rattle.season_run.specs.Season.{listed}
+use Rattle.season_run.specs.Turning.{Inside, Counted}
+
+-- ---- numbers and blocks of an input of bytes
+
+pub bytes-zeros : (n : ℕ) → Bytes (replicate n 0)
+bytes-zeros n = subst Bytes (tabulate-zeros n) (bytes-tabulate n (λ i. 0) (λ i hi. omega arith))
+
+pub span-bytes : (input : List ℕ) (s : Span) → Bytes input → Bytes (bytesOf input s)
+span-bytes input s h = bytes-take (s .count) (drop (s .at) input) (bytes-drop (s .at) input h)
+
+choice-small : (input : List ℕ) (at : ℕ) → Bytes input → choiceAt input at < 2 ^ 32
+unfolding choiceAt
+choice-small input at h = omega (arith, h at, h (at + 1), h (at + 2), h (at + 2 + 1))
+
+-- ---- the sections before the events
+
+-- the one choice that ends at a header
+header-of : (b₁ b₂ b₃ : Bool) (u v w : ℕ) (h hd : Header)
+    → choose b₁ (opening.Faulty u) (choose b₂ (choose b₃ (opening.Faulty v) (opening.Whole h)) (opening.Faulty w)) ≡ opening.Whole hd
+    → (b₃ ≡ false) × (h ≡ hd)
+header-of true b₂ b₃ u v w h hd e = let z : _≡_ {A = ℕ} 0 1 = cc in absurd (omega arith)
+header-of false true true u v w h hd e = let z : _≡_ {A = ℕ} 0 1 = cc in absurd (omega arith)
+header-of false true false u v w h hd e = (refl, cc)
+header-of false false b₃ u v w h hd e = let z : _≡_ {A = ℕ} 0 1 = cc in absurd (omega arith)
+
+-- message and slack stand within the input
+pub header-inside : (input : List ℕ) (hd : Header) → openingOf input ≡ opening.Whole hd
+    → (hd .message .at + hd .message .count ≤ length input) × (hd .slack .at + hd .slack .count ≤ length input)
+unfolding openingOf
+header-inside input hd e =
+    let w = header-of (ltb (length input) 2) (eqb (numberAt input 0) 5) (ltb (length input) (eventsCountAt input + 2)) _ _ _ _ hd e in
+    let h : eventsCountAt input + 2 ≤ length input = ltb-false _ _ (w .0) in
+    subst (λ (g : Header). (g .message .at + g .message .count ≤ length input) × (g .slack .at + g .slack .count ≤ length input)) (w .1)
+    (omega arith, omega arith)
+
+-- ---- an event that was found
+
+pub span-length : (input : List ℕ) (s : Span) → s .at + s .count ≤ length input → length (bytesOf input s) ≡ s .count
+span-length input s h = length-take-le (s .count) (drop (s .at) input) (omega (arith, length-drop (s .at) input))
+
+-- its sets have 32 bits
+abbrev Small : Event → Type 0
+Small (Update f) = f .to .0 < 2 ^ 32
+Small (Repair f) = (f .from .0 < 2 ^ 32) × (f .lost .0 < 2 ^ 32)
+Small (Damage f) = Unit {0}
+Small (Decode f) = f .from .0 < 2 ^ 32
+Small (Reconfigure f) = (f .from .0 < 2 ^ 32) × (f .to .0 < 2 ^ 32)
+
+pub record Good (a : Params) (input : List ℕ) (e : Event) : Type 0 where
+  pub inside : Inside input e
+  pub counted : Counted a e
+  pub small : Bytes input → Small e
+
+-- what holds of each kind's event and lengths holds of those that the tests of the kind choose
+by-kind : {A : Type 0} (P : A → ℕ → ℕ → Type 0) (b₁ b₂ b₃ b₄ : Bool) {x₁ x₂ x₃ x₄ x₅ : A} {y₁ y₂ y₃ y₄ y₅ z₁ z₂ z₃ z₄ z₅ : ℕ}
+    → P x₁ y₁ z₁ → P x₂ y₂ z₂ → P x₃ y₃ z₃ → P x₄ y₄ z₄ → P x₅ y₅ z₅
+    → P (choose b₁ x₁ (choose b₂ x₂ (choose b₃ x₃ (choose b₄ x₄ x₅)))) (choose b₁ y₁ (choose b₂ y₂ (choose b₃ y₃ (choose b₄ y₄ y₅))))
+    (choose b₁ z₁ (choose b₂ z₂ (choose b₃ z₃ (choose b₄ z₄ z₅))))
+by-kind P true b₂ b₃ b₄ p₁ p₂ p₃ p₄ p₅ = p₁
+by-kind P false true b₃ b₄ p₁ p₂ p₃ p₄ p₅ = p₂
+by-kind P false false true b₄ p₁ p₂ p₃ p₄ p₅ = p₃
+by-kind P false false false true p₁ p₂ p₃ p₄ p₅ = p₄
+by-kind P false false false false p₁ p₂ p₃ p₄ p₅ = p₅
+
+event-good : (a : Params) (input : List ℕ) (at kind : ℕ) → endOf a input at kind ≤ length input → Good a input (eventAt a input at kind)
+event-good a input at kind =
+    by-kind (λ e m q. at + m + q ≤ length input → Good a input e) (eqb kind 1) (eqb kind 2) (eqb kind 3) (eqb kind 4)
+    (λ h. record { inside = omega arith; counted = refl; small = choice-small input at })
+    (λ h. record { inside = tt; counted = tt; small = λ hb. (choice-small input at hb, choice-small input (at + 4) hb) })
+    (λ h. record { inside = omega arith; counted = refl; small = λ hb. tt })
+    (λ h. record { inside = tt; counted = tt; small = choice-small input at })
+    (λ h. record { inside = omega arith; counted = refl; small = λ hb. (choice-small input at hb, choice-small input (at + 12) hb) })
+
+-- the one choice that ends at an event
+whole-of : (b₁ b₂ b₃ : Bool) (u v w : Fault) (g f : Found)
+    → choose b₁ (choose b₂ (item.Faulty u) (choose b₃ (item.Faulty v) (item.Whole g))) (item.Faulty w) ≡ item.Whole f → (b₃ ≡ false) × (g ≡ f)
+whole-of true true b₃ u v w g f e = let z : _≡_ {A = ℕ} 0 1 = cc in absurd (omega arith)
+whole-of true false true u v w g f e = let z : _≡_ {A = ℕ} 0 1 = cc in absurd (omega arith)
+whole-of true false false u v w g f e = (refl, cc)
+whole-of false b₂ b₃ u v w g f e = let z : _≡_ {A = ℕ} 0 1 = cc in absurd (omega arith)
+
+pub found-good : (a : Params) (input : List ℕ) (at : ℕ) (f : Found) → itemAt a input at ≡ item.Whole f → Good a input (f .event)
+unfolding itemAt
+found-good a input at f e =
+    let kind : ℕ = getD input at 0 in
+    let w =
+    whole-of (ltb at (length input)) (eqb kind 0 || ltb 5 kind) (ltb (length input) (endOf a input (at + 1) kind)) _ _ _ _ f e in
+    subst (λ (g : Found). Good a input (g .event)) (w .1) (event-good a input (at + 1) kind (ltb-false _ _ (w .0)))
+
+-- ---- the list's event
+
+pub typed : (a : Params) (input : List ℕ) (e : Event) → Bytes input → Good a input e → Typed (listed a input e)
+typed a input (Update f) hb g = (tt, span-bytes input (f .change) hb, g .small hb)
+typed a input (Repair f) hb g = (tt, g .small hb .0, g .small hb .1)
+typed a input (Damage f) hb g = span-bytes input (f .block) hb
+typed a input (Decode f) hb g = (tt, bytes-zeros (a .k * a .b), g .small hb)
+typed a input (Reconfigure f) hb g = (tt, bytes-zeros (f .shape .n * a .b), span-bytes input (f .message) hb, g .small hb .0, g .small hb .1)
+
+-- The answer that an event prints is its number in the list, where the record in force has n·b bytes.
+pub answer-is-gate : (h : Held) (input : List ℕ) (e : Event) → length (h .codeword) ≡ h .params .n * h .params .b → Inside input e → Counted (h .params) e
+    → answerOf (h .params) e ≡ gate h (listed (h .params) input e)
+unfolding answerOf
+answer-is-gate h input (Update f) l i g = let s = span-length input (f .change) i ∙ g in cc
+answer-is-gate h input (Repair f) l i g = cc
+answer-is-gate h input (Damage f) l i g = refl
+answer-is-gate h input (Decode f) l i g = let r = length-replicate {A = ℕ} (h .params .k * h .params .b) 0 in cc
+answer-is-gate h input (Reconfigure f) l i g =
+    let r = length-replicate {A = ℕ} (f .shape .n * h .params .b) 0 in
+    let s = span-length input (f .message) i ∙ g in cc

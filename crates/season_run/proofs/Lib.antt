@@ -1,0 +1,7 @@
+pub mod Events
+pub mod Output
+pub mod LedgerRun
+pub mod Sample
+mod Fronts
+mod Applied
+mod Turns

@@ -1,0 +1,92 @@
+-- The sample of document 01 ("The season program"): its output is the output of its input, each event by computing what its call's post-condition comes down
+-- to. Assumes nothing.
+use mathlib.Core.Path.{_≡_, refl}
+use mathlib.Core.List.{List, [], _∷_}
+use Prim.Native.Nat.{ℕ, _≤_}
+use native.Mathlib.Omega.{arith}
+use lib.Count.{ones}
+use lib.ListN.{length}
+use Rattle.base.specs.Gate.{firstNo}
+use Rattle.base.specs.Seq.{cell, blocks, tabulate}
+use Rattle.field.specs.Field.{add, mul, pow}
+use Rattle.field.specs.FiniteSum.{sum}
+use Rattle.interpolation.specs.Polynomial.{evaluate}
+use Rattle.params.specs.Nodes.{has, size, within, disjoint, count}
+use Rattle.params.specs.Params.{slackParts}
+use Rattle.gates.specs.Gates.{encodeGate, decodeGate, updateGate, damageGate}
+use Rattle.params.specs.declared.Params.{Params}
+use Rattle.code.specs.Code.{point, block}
+use Rattle.ledger.specs.Ledger.{Held, damagedWord, updated, damaged, decoded}
+use Rattle.ledger.proofs.Computed.{encode-by, decode-by, update-by}
+use Rattle.season_file.specs.File.{numberAt, choiceAt, openingOf, itemAt}
+use Rattle.season_file.specs.Lines.{digitsBefore, decimal, hexDigit, hex, messageField, lineOf}
+use Rattle.season_file.specs.Answers.{answerOf}
+use Rattle.season_file.specs.declared.Found.{Found}
+use Rattle.season_file.specs.declared.Event.the-variants.{Update, Damage, Decode}
+use Rattle.season_run.specs.Season.{Season, season, opened, turn, tried, over, done}
+use Rattle.season_run.proofs.Output.{output-unique}
+
+abbrev pub input : List ℕ
+input =
+    0x00 ∷ 0x05 ∷ 0x00 ∷ 0x01 ∷ 0x00 ∷ 0x02 ∷ 0x00 ∷ 0x02 ∷ 0x00 ∷ 0x03 ∷ 0x00 ∷ 0x01 ∷ 0x00 ∷ 0x01 ∷ 0x07 ∷ 0x00 ∷ 0x01 ∷ 0x01 ∷ 0x00 ∷ 0x05 ∷
+    0x01 ∷ 0x00 ∷ 0x00 ∷ 0x00 ∷ 0x03 ∷ 0x05 ∷ 0x04 ∷ 0x00 ∷ 0x00 ∷ 0x00 ∷ 0x05 ∷ 0x01 ∷ 0x00 ∷ 0x00 ∷ 0x00 ∷ 0x05 ∷ 0x02 ∷ 0x03 ∷ 0x01 ∷ 0xff ∷
+    0x04 ∷ 0x00 ∷ 0x00 ∷ 0x00 ∷ 0x06 ∷ []
+
+-- "0 0 0", "1 1 0", "2 4 0 02", "3 1 0", "4 3 0", "5 4 0 00", a line end after each
+abbrev pub output : List ℕ
+output =
+    48 ∷ 32 ∷ 48 ∷ 32 ∷ 48 ∷ 10 ∷ 49 ∷ 32 ∷ 49 ∷ 32 ∷ 48 ∷ 10 ∷ 50 ∷ 32 ∷ 52 ∷ 32 ∷ 48 ∷ 32 ∷ 48 ∷ 50 ∷ 10 ∷ 51 ∷ 32 ∷ 49 ∷ 32 ∷ 48 ∷ 10 ∷
+    52 ∷ 32 ∷ 51 ∷ 32 ∷ 48 ∷ 10 ∷ 53 ∷ 32 ∷ 52 ∷ 32 ∷ 48 ∷ 32 ∷ 48 ∷ 48 ∷ 10 ∷ []
+
+abbrev small : Params
+small = record { k = 1; r = 2; w = 2; n = 3; b = 1 }
+
+abbrev stands : List ℕ → Held
+stands codeword = record { params = small; codeword = codeword }
+
+-- the events
+abbrev change : ℕ → ℕ → ℕ → Found
+change to at after = record { event = Update (record { to = record { 0 = to }; change = record { at = at; count = 1 } }); next = after }
+
+abbrev reading : ℕ → ℕ → Found
+reading from after = record { event = Decode (record { from = record { 0 = from } }); next = after }
+
+abbrev blow : Found
+blow = record { event = Damage (record { node = record { 0 = 1 }; block = record { at = 39; count = 1 } }); next = 40 }
+
+-- nothing is left over
+ends : length input ≤ 45
+ends = omega arith
+
+pub sample : Season input output
+unfolding openingOf itemAt numberAt choiceAt lineOf decimal digitsBefore hexDigit hex messageField answerOf encodeGate decodeGate updateGate damageGate firstNo slackParts has size ones within disjoint count cell blocks tabulate block point evaluate sum add mul pow damagedWord
+sample =
+    season (opened (record { params = small; message = record { at = 14; count = 1 }; slack = record { at = 17; count = 1 }; events = 5; at = 20 }) (0x06 ∷ 0x0a ∷ 0x0c ∷ []) refl (encode-by _ _ _ _ tt _ refl)) (
+    turn
+    (tried 4 (change 3 25 26) _ (stands (0x00 ∷ 0x0c ∷ 0x0c ∷ [])) refl refl
+    (record { message = []; prints = refl; line-is = refl; step = updated 0 (0x00 ∷ 0x0c ∷ 0x0c ∷ []) (update-by _ _ _ _ _ (0x03 ∷ []) tt) })) (
+    turn
+    (tried 3 (reading 5 31) _ (stands (0x00 ∷ 0x0c ∷ 0x0c ∷ [])) refl refl
+    (record {
+      message = 0x02 ∷ [];
+      prints = record { served = λ _. decode-by _ _ _ _ (0x02 ∷ []) tt (0x00 ∷ []) refl .served refl; refused = λ ne. absurd (ne refl) };
+      line-is = refl;
+      step = decoded 0 (0x02 ∷ []) (decode-by _ _ _ _ (0x02 ∷ []) tt _ refl);
+    })) (
+    turn
+    (tried 2 (change 5 36 37) _ (stands (0x03 ∷ 0x0c ∷ 0x0f ∷ [])) refl refl
+    (record { message = []; prints = refl; line-is = refl; step = updated 0 (0x03 ∷ 0x0c ∷ 0x0f ∷ []) (update-by _ _ _ _ _ (0x01 ∷ []) tt) })) (
+    turn
+    (tried 1 blow _ (stands (0xff ∷ 0x0c ∷ 0x0f ∷ [])) refl refl (record { message = []; prints = refl; line-is = refl; step = damaged })) (
+    turn
+    (tried 0 (reading 6 45) _ (stands (0xff ∷ 0x0c ∷ 0x0f ∷ [])) refl refl
+    (record {
+      message = 0x00 ∷ [];
+      prints = record { served = λ _. decode-by _ _ _ _ (0x03 ∷ []) tt (0x00 ∷ []) refl .served refl; refused = λ ne. absurd (ne refl) };
+      line-is = refl;
+      step = decoded 0 (0x00 ∷ []) (decode-by _ _ _ _ (0x03 ∷ []) tt _ refl);
+    })) (turn (over refl ends) done))))))
+
+-- no other output belongs to it
+pub sample-only : {other : List ℕ} → Season input other → other ≡ output
+sample-only s = output-unique s sample

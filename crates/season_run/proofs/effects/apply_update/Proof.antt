@@ -1,0 +1,56 @@
+-- The call on the record and the change. Assumes nothing.
+use mathlib.Core.Path.{sym, _∙_}
+use native.Mathlib.Omega.{arith}
+use denote.Ref.{now}
+use lib.Seq.{length-take-le}
+use Rattle.gates.proofs.Valid.{n-fits}
+use Rattle.season_run.proofs.Fronts.{blocks-room}
+use Rattle.season_run.proofs.Applied.{update-applied}
+use borrow.Author.Needs.{needs}
+use Rattle.season_run.proofs.effects.apply_update.Statement.{statement}
+use Rattle.season_run.proofs.effects.apply_update.Tie as tie
+
+mul-length : tie.Need-mul-length
+mul-length c = n-fits (c .before .before .before .pre .valid)
+
+add-end : tie.Need-add-end
+add-end c = search needs
+
+slice-relend-prefix-update : tie.Need-slice-relend-prefix-update
+slice-relend-prefix-update c = let s = c .before .before .before .before in omega (arith, s .pre .room, blocks-room (s .args .a) (s .args .a .n) (s .pre .valid) (omega arith))
+
+slice-aggregate-update : tie.Need-slice-aggregate-update
+slice-aggregate-update c = sym (length-take-le _ (now (c .before .before .before .before .before .args .codeword)) (slice-relend-prefix-update (c .before)))
+
+sub-update : tie.Need-sub-update
+sub-update c = search needs
+
+part-update-start : tie.Need-part-update-start
+part-update-start c = search needs
+
+part-update-end : tie.Need-part-update-end
+part-update-end c = search needs
+
+update-requires : tie.Need-update-requires
+update-requires c κs = search needs
+
+same-length : tie.Need-same-length
+same-length c = search needs
+
+returns : tie.Need-returns
+returns c = let s = c .before .before .before .before .before .before .before .before .before in update-applied (s .args .a) (now (s .args .input)) (s .args .f) (now (s .args .codeword)) _ _ (s .pre) (c .before .before .update .kept .1 .0 ∙ sym (slice-aggregate-update (c .before .before .before .before))) (c .before .before .update .ensures)
+
+pub apply-update-spec : {M : Type 1} → statement M
+apply-update-spec =
+    tie.close
+    (tie.spec
+    mul-length
+    add-end
+    slice-relend-prefix-update
+    slice-aggregate-update
+    sub-update
+    part-update-start
+    part-update-end
+    update-requires
+    same-length
+    returns)

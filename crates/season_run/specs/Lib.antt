@@ -1,0 +1,3 @@
+pub mod Season
+pub mod Ledgers
+pub mod Turning

@@ -1,0 +1,163 @@
+-- A run of the season program (document 01): what each turn prints and leaves, and the whole run's output for an input. An event does to the record what it
+-- does in a list of the ledger machine (ledger/specs/Ledger.antt), which is the post-condition of the call. Assumes nothing.
+use mathlib.Core.Path.{_≡_}
+use mathlib.Core.List.{List, [], _++_}
+use Prim.Native.Nat.{ℕ, suc, _*_, _≤_, _<_}
+use lib.ListN.{length, take, drop, replicate}
+use Rattle.gates.specs.Gates.{encodeGate}
+use Rattle.gates.specs.Valid.{Valid}
+use Rattle.params.specs.declared.Params.{Params}
+use Rattle.code.specs.Calls.{EncodePost, Decoded}
+use Rattle.ledger.specs.Ledger.{Held, Step, held, update, repair, damage, decode, reconfigure}
+use Rattle.ledger.specs.Ledger as ledger
+use Rattle.season_file.specs.File.{bytesOf, openingOf, itemAt, kindOf}
+use Rattle.season_file.specs.Lines.{lineOf, Wrote}
+use Rattle.season_file.specs.Answers.{answerOf}
+use Rattle.season_file.specs.declared.Event.{Event}
+use Rattle.season_file.specs.declared.Event.the-variants.{Update, Repair, Damage, Decode, Reconfigure}
+use Rattle.season_file.specs.declared.Header.{Header}
+use Rattle.season_file.specs.declared.Fault.{Fault}
+use Rattle.season_file.specs.declared.Found.{Found}
+use Rattle.season_file.specs.declared.Item.the-variants as item
+use Rattle.season_file.specs.declared.Opening.the-variants as opening
+use Rattle.season_run.specs.declared.State.{State}
+use Rattle.season_run.specs.declared.Next.{Next}
+use Rattle.season_run.specs.declared.Next.the-variants as next
+use Rattle.season_run.specs.declared.Turn.{Turn}
+
+-- ---- one event
+
+-- The file's event as one of a list of the ledger machine: it is given the parameters and the record in force, its blocks are the input's bytes, and a buffer
+-- that a call fills held zeros.
+abbrev pub listed : Params → List ℕ → Event → ledger.Event
+listed a input (Update f) = update a held (bytesOf input (f .change)) (f .to .0)
+listed a input (Repair f) = repair a held (f .from .0) (f .lost .0)
+listed a input (Damage f) = damage (f .node .0) (bytesOf input (f .block))
+listed a input (Decode f) = decode a held (replicate (a .k * a .b) 0) (f .from .0)
+listed a input (Reconfigure f) =
+    reconfigure a (f .shape) held (replicate (f .shape .n * a .b) 0) (bytesOf input (f .message)) (f .from .0) (f .to .0)
+
+-- an accepted reading's message
+pub record Read (h : Held) (answer from : ℕ) (message : List ℕ) : Type 0 where
+  pub served : answer ≡ 0 → Decoded (h .params) (h .codeword) from message
+  pub refused : (answer ≡ 0 → ⊥) → message ≡ []
+
+-- "after an accepted reading the message": what the event's line ends with
+abbrev pub Prints : Held → Event → List ℕ → Type 0
+Prints h (Decode f) message = Read h (answerOf (h .params) (Decode f)) (f .from .0) message
+Prints h (Update _) message = message ≡ []
+Prints h (Repair _) message = message ≡ []
+Prints h (Damage _) message = message ≡ []
+Prints h (Reconfigure _) message = message ≡ []
+
+-- One event is tried: its line, and what is then held.
+pub record Tried (input : List ℕ) (h : Held) (number : ℕ) (e : Event) (line : List ℕ) (h′ : Held) : Type 0 where
+  pub message : List ℕ
+  pub prints : Prints h e message
+  pub line-is : line ≡ lineOf number (kindOf e) (answerOf (h .params) e) message
+  pub step : Step h (listed (h .params) input e) h′
+
+-- ---- one turn
+
+-- Where a run stands: what is held, the next event's number, how many events are left by the count, and where the next one begins.
+pub record Place : Type 0 where
+  pub stands : Held
+  pub number : ℕ
+  pub left : ℕ
+  pub at : ℕ
+
+pub data Outcome : Type 0 where
+  ended : Outcome
+  on : Place → Outcome
+
+-- "File faults end the run after a line with that event's number, its kind (0 if unread) and: .. 23 bytes left over (number: events + 1, kind 0)."
+pub data Goes (input : List ℕ) (here : Place) : List ℕ → Outcome → Type 0 where
+  over : here .left ≡ 0 → length input ≤ here .at → Goes input here [] ended
+  leftover : here .left ≡ 0 → here .at < length input → Goes input here (lineOf (here .number) 0 23 []) ended
+  faulty : (more : ℕ) (f : Fault) → here .left ≡ suc more → itemAt (here .stands .params) input (here .at) ≡ item.Faulty f
+      → Goes input here (lineOf (here .number) (f .kind) (f .number) []) ended
+  tried : (more : ℕ) (f : Found) (line : List ℕ) (h′ : Held) → here .left ≡ suc more
+      → itemAt (here .stands .params) input (here .at) ≡ item.Whole f
+      → Tried input (here .stands) (here .number) (f .event) line h′
+      → Goes input here line (on (record { stands = h′; number = suc (here .number); left = more; at = f .next }))
+
+-- "The set-up prints first, as event 0, kind 0; if refused, the run ends."
+abbrev pub setUpAnswer : List ℕ → Header → ℕ
+setUpAnswer input hd =
+    encodeGate (hd .params) (length (bytesOf input (hd .message))) (length (bytesOf input (hd .slack))) (hd .params .n * hd .params .b)
+
+pub data Opens (input : List ℕ) : List ℕ → Outcome → Type 0 where
+  faulty : (fault : ℕ) → openingOf input ≡ opening.Faulty fault → Opens input (lineOf 0 0 fault []) ended
+  refused : (hd : Header) → openingOf input ≡ opening.Whole hd → (setUpAnswer input hd ≡ 0 → ⊥)
+      → Opens input (lineOf 0 0 (setUpAnswer input hd) []) ended
+  opened : (hd : Header) (codeword : List ℕ) → openingOf input ≡ opening.Whole hd
+      → EncodePost (hd .params) (bytesOf input (hd .message)) (bytesOf input (hd .slack)) (replicate (hd .params .n * hd .params .b) 0) 0 codeword
+      → Opens input (lineOf 0 0 0 [])
+      (on
+      (record {
+        stands = record { params = hd .params; codeword = codeword };
+        number = 1;
+        left = hd .events;
+        at = hd .at;
+      }))
+
+-- ---- the whole run: the turns' lines, one after the other
+
+pub data Runs (input : List ℕ) : Outcome → List ℕ → Type 0 where
+  done : Runs input ended []
+  turn : {here : Place} {outcome : Outcome} {line rest : List ℕ} → Goes input here line outcome → Runs input outcome rest
+      → Runs input (on here) (line ++ rest)
+
+-- The output for an input (of which the program reads at most 65,535 bytes).
+pub data Season (input : List ℕ) : List ℕ → Type 0 where
+  season : {outcome : Outcome} {line rest : List ℕ} → Opens input line outcome → Runs input outcome rest → Season input (line ++ rest)
+
+-- ---- the contracts of the two functions
+
+-- The record in force stands at the front of a buffer with room for any.
+abbrev pub heldIn : Params → List ℕ → Held
+heldIn a buffer = record { params = a; codeword = take (a .n * a .b) buffer }
+
+abbrev pub placeOf : State → List ℕ → Place
+placeOf s buffer = record { stands = heldIn (s .params) buffer; number = s .number; left = s .left; at = s .at }
+
+abbrev pub outcomeOf : Next → List ℕ → Outcome
+outcomeOf next.End buffer = ended
+outcomeOf (next.On s) buffer = on (placeOf s buffer)
+
+-- where the record in force ends
+abbrev pub recordEnd : Next → ℕ
+recordEnd next.End = 0
+recordEnd (next.On s) = s .params .n * s .params .b
+
+-- room for the largest record, and for the longest line
+pub record Room (buffer line : List ℕ) : Type 0 where
+  pub record-room : length buffer ≡ 32768
+  pub line-room : length line ≡ 65600
+
+-- a turn with the given line and outcome, in the buffers: behind record and line they are as they were, and at the run's end the record's buffer is as it was
+pub record Turned (Result : List ℕ → Outcome → Type 0) (buffer line : List ℕ) (t : Turn) (buffer′ line′ : List ℕ) : Type 0 where
+  pub text : List ℕ
+  pub result : Result text (outcomeOf (t .next) buffer′)
+  pub wrote : Wrote text line (t .written) line′
+  pub length-is : length buffer′ ≡ length buffer
+  pub rest : drop (recordEnd (t .next)) buffer′ ≡ drop (recordEnd (t .next)) buffer
+
+-- nothing is done with buffers of other lengths, or from a state with parameters that no set-up accepts
+pub record Idle (buffer line : List ℕ) (t : Turn) (buffer′ line′ : List ℕ) : Type 0 where
+  pub ends : t ≡ record { written = 0; next = next.End }
+  pub buffer-kept : buffer′ ≡ buffer
+  pub line-kept : line′ ≡ line
+
+pub record BeginPost (input buffer line : List ℕ) (t : Turn) (buffer′ line′ : List ℕ) : Type 0 where
+  pub served : Room buffer line → Turned (Opens input) buffer line t buffer′ line′
+  pub refused : (Room buffer line → ⊥) → Idle buffer line t buffer′ line′
+
+-- what a turn can start from: valid parameters in force, and an event number that can be counted on
+pub record Standing (s : State) : Type 0 where
+  pub valid : Valid (s .params)
+  pub countable : s .number ≤ 65536
+
+pub record TurnPost (input : List ℕ) (s : State) (buffer line : List ℕ) (t : Turn) (buffer′ line′ : List ℕ) : Type 0 where
+  pub served : Room buffer line × Standing s → Turned (Goes input (placeOf s buffer)) buffer line t buffer′ line′
+  pub refused : (Room buffer line × Standing s → ⊥) → Idle buffer line t buffer′ line′

@@ -1,0 +1,73 @@
+// The set-up, which prints first.
+use super::Next;
+use super::State;
+use super::Turn;
+use super::effects::record_length;
+use super::idle;
+use super::last_line;
+use access::encode;
+use season_file::Header;
+use season_file::Opening;
+use season_file::lines::write_line;
+use season_file::parsing::open;
+ghost use mathlib.Core.Path.{_≡_};
+ghost use Rattle.season_file.specs.File.{openingOf};
+ghost use Rattle.season_file.specs.declared.Opening.the-variants.{Whole};
+ghost use Rattle.season_run.specs.Season.{Opens, Room, Turned, BeginPost};
+
+// Tries the set-up: its line, and the record at the front of the codeword's buffer, of 32,768 bytes. The line's has 65,600; with others nothing is done.
+pub fn begin(input: &[u8], codeword: &mut [u8], line: &mut [u8]) -> Turn
+    ensures { λ r. ⌜ BeginPost (now (input .entry)) (now (codeword .entry)) (now (line .entry)) r (now (codeword .exit)) (now (line .exit)) ⌝ }
+{
+    if codeword.len() != 32768 {
+        return idle();
+    }
+    if line.len() != 65600 {
+        return idle();
+    }
+    begin_within(input, codeword, line)
+}
+
+// The same where the buffers are as they should be.
+fn begin_within(input: &[u8], codeword: &mut [u8], line: &mut [u8]) -> Turn
+    requires { ⌜ Room (now codeword) (now line) ⌝ }
+    ensures { λ r. ⌜ Turned (Opens (now (input .entry))) (now (codeword .entry)) (now (line .entry)) r (now (codeword .exit)) (now (line .exit)) ⌝ }
+{
+    match open(input) {
+        Opening::Faulty(fault) => last_line(input, line, 0, 0, fault),
+        Opening::Whole(header) => set_up(input, header, codeword, line),
+    }
+}
+
+// A record of valid parameters is encoded at the front of the buffer. Others are refused before its length is looked at.
+fn set_up(input: &[u8], header: Header, codeword: &mut [u8], line: &mut [u8]) -> Turn
+    requires { ⌜ openingOf (now input) ≡ Whole header ⌝ }
+    requires { ⌜ Room (now codeword) (now line) ⌝ }
+    ensures { λ r. ⌜ Turned (Opens (now (input .entry))) (now (codeword .entry)) (now (line .entry)) r (now (codeword .exit)) (now (line .exit)) ⌝ }
+{
+    let params = header.params;
+    let length = record_length(params);
+    let message = header.message.at;
+    let message_end = message + header.message.count;
+    let slack = header.slack.at;
+    let slack_end = slack + header.slack.count;
+    let answer = encode(
+        params,
+        &input[message..message_end],
+        &input[slack..slack_end],
+        &mut codeword[..length],
+    );
+    if answer != 0 {
+        return last_line(input, line, 0, 0, answer);
+    }
+    let written = write_line(line, 0, 0, 0, &input[..0]);
+    Turn {
+        written,
+        next: Next::On(State {
+            params,
+            number: 1,
+            left: header.events,
+            at: header.at,
+        }),
+    }
+}

@@ -1,0 +1,561 @@
+//! Jirvents for Rust: records spread over storage nodes by a Read-Write
+//! erasure code. Any r of n nodes give a record's message back, and a change of
+//! the message goes out to any w nodes without reading them.
+//!
+//! The calls are those of the proved library, `libjirvents.a`; this crate adds
+//! their declarations and safe functions. What the library assumes of slices,
+//! that they are whole and do not overlap, Rust's borrows provide.
+//!
+//! A **message** is k parts of b bytes, a **slack** r - k parts, a **codeword**
+//! n blocks, that of node 1 first. A **node set** is a `u32` in which node i is
+//! worth 2^(i-1). Every number, set and length may be given: each call puts its
+//! questions ([`QUESTIONS`]) and is refused by the first that is answered no. A
+//! refused call writes nothing.
+//!
+//! ```
+//! use jirvents::{decode, encode, repair, update, Params};
+//!
+//! let p = Params { k: 1, r: 2, w: 2, n: 3, b: 1 };
+//! let mut codeword = [0; 3];
+//! encode(p, &[0x07], &[0x01], &mut codeword)?;
+//! assert_eq!(codeword, [0x06, 0x0A, 0x0C]);
+//!
+//! // Node 3 is flat: the change goes to nodes 1 and 2.
+//! update(p, &mut codeword, &[0x05], 0b011)?;
+//! let mut message = [0; 1];
+//! decode(p, &codeword, 0b101, &mut message)?;
+//! assert_eq!(message, [0x02]);
+//!
+//! // Node 1 is damaged, and written anew from nodes 2 and 3.
+//! codeword[0] = 0xFF;
+//! repair(p, &mut codeword, 0b110, 0b001)?;
+//! assert_eq!(codeword, [0x00, 0x0C, 0x0C]);
+//!
+//! let refusal = decode(p, &codeword, 0b111, &mut message).unwrap_err();
+//! assert_eq!(refusal.to_string(), "question 8: has each node set its size?");
+//! # Ok::<(), jirvents::Refusal>(())
+//! ```
+
+#![no_std]
+#![warn(missing_docs)]
+
+use core::error::Error;
+use core::fmt;
+
+/// The parameters of a code, with r + w = k + n.
+#[derive(Clone, Copy, Debug, PartialEq, Eq)]
+pub struct Params {
+    /// Message parts.
+    pub k: usize,
+    /// Nodes to read.
+    pub r: usize,
+    /// Nodes to write.
+    pub w: usize,
+    /// Nodes.
+    pub n: usize,
+    /// Bytes in a block.
+    pub b: usize,
+}
+
+/// Parameters without the block size, which a reconfiguration keeps.
+#[derive(Clone, Copy, Debug, PartialEq, Eq)]
+pub struct Shape {
+    /// Message parts.
+    pub k: usize,
+    /// Nodes to read.
+    pub r: usize,
+    /// Nodes to write.
+    pub w: usize,
+    /// Nodes.
+    pub n: usize,
+}
+
+/// The questions that calls put, by number. 11 to 14 are 1 to 4 for the new
+/// parameters.
+pub const QUESTIONS: [(u32, &str); 12] = [
+    (1, "is n from 1 to 32?"),
+    (2, "are r and w at most n?"),
+    (3, "is k at least 1, at most r and at most w?"),
+    (4, "is r + w = k + n?"),
+    (5, "is b from 1 to 1,024?"),
+    (6, "has each slice its exact length?"),
+    (7, "does each node set name only nodes up to its n?"),
+    (8, "has each node set its size?"),
+    (9, "are the lost nodes apart from those read?"),
+    (10, "is the node from 1 to n?"),
+    (15, "has the matrix an inverse?"),
+    (16, "is the matrix's side from 1 to 32?"),
+];
+
+/// A refused call: the number of the first question that was answered no.
+#[derive(Clone, Copy, Debug, PartialEq, Eq)]
+pub struct Refusal {
+    number: u32,
+}
+
+impl Refusal {
+    /// The question's number.
+    pub fn number(self) -> u32 {
+        self.number
+    }
+}
+
+impl fmt::Display for Refusal {
+    fn fmt(&self, f: &mut fmt::Formatter<'_>) -> fmt::Result {
+        let (asked, of) = match self.number {
+            11..=14 => (self.number - 10, " of the new parameters"),
+            number => (number, ""),
+        };
+        let row = QUESTIONS.iter().find(|(number, _)| *number == asked);
+        let question = row.map_or("?", |(_, question)| question);
+        write!(f, "question {}{of}: {question}", self.number)
+    }
+}
+
+impl Error for Refusal {}
+
+/// Why [`invert`] wrote nothing.
+#[derive(Clone, Copy, Debug, PartialEq, Eq)]
+pub enum InvertError {
+    /// Question 16 or 6 was answered no.
+    Refused(Refusal),
+    /// The matrix has no inverse, question 15: this column, counted from 1, is
+    /// a sum of multiples of the others.
+    Singular {
+        /// The column.
+        column: usize,
+    },
+}
+
+impl InvertError {
+    /// The question's number.
+    pub fn number(self) -> u32 {
+        match self {
+            InvertError::Refused(refusal) => refusal.number,
+            InvertError::Singular { .. } => 15,
+        }
+    }
+}
+
+impl fmt::Display for InvertError {
+    fn fmt(&self, f: &mut fmt::Formatter<'_>) -> fmt::Result {
+        let number = self.number();
+        Refusal { number }.fmt(f)?;
+        match self {
+            InvertError::Refused(_) => Ok(()),
+            InvertError::Singular { column } => {
+                write!(
+                    f,
+                    " No: column {column} is a sum of multiples of the others"
+                )
+            }
+        }
+    }
+}
+
+impl Error for InvertError {}
+
+/// The library's functions. A slice is a pointer, not null, and a length.
+mod raw {
+    extern "C" {
+        pub fn jirvents_encode(
+            k: usize,
+            r: usize,
+            w: usize,
+            n: usize,
+            b: usize,
+            message: *const u8,
+            message_len: usize,
+            slack: *const u8,
+            slack_len: usize,
+            codeword: *mut u8,
+            codeword_len: usize,
+        ) -> u32;
+
+        pub fn jirvents_decode(
+            k: usize,
+            r: usize,
+            w: usize,
+            n: usize,
+            b: usize,
+            codeword: *const u8,
+            codeword_len: usize,
+            from: u32,
+            out: *mut u8,
+            out_len: usize,
+        ) -> u32;
+
+        pub fn jirvents_delta(
+            k: usize,
+            r: usize,
+            w: usize,
+            n: usize,
+            b: usize,
+            change: *const u8,
+            change_len: usize,
+            to: u32,
+            out: *mut u8,
+            out_len: usize,
+        ) -> u32;
+
+        pub fn jirvents_update(
+            k: usize,
+            r: usize,
+            w: usize,
+            n: usize,
+            b: usize,
+            codeword: *mut u8,
+            codeword_len: usize,
+            change: *const u8,
+            change_len: usize,
+            to: u32,
+        ) -> u32;
+
+        pub fn jirvents_repair(
+            k: usize,
+            r: usize,
+            w: usize,
+            n: usize,
+            b: usize,
+            codeword: *mut u8,
+            codeword_len: usize,
+            from: u32,
+            lost: u32,
+        ) -> u32;
+
+        pub fn jirvents_reconfigure(
+            k: usize,
+            r: usize,
+            w: usize,
+            n: usize,
+            b: usize,
+            k2: usize,
+            r2: usize,
+            w2: usize,
+            n2: usize,
+            codeword: *const u8,
+            codeword_len: usize,
+            from: u32,
+            to: u32,
+            message: *const u8,
+            message_len: usize,
+            out: *mut u8,
+            out_len: usize,
+        ) -> u32;
+
+        /// Writes `node` with answer 0 only.
+        pub fn jirvents_check(
+            k: usize,
+            r: usize,
+            w: usize,
+            n: usize,
+            b: usize,
+            codeword: *const u8,
+            codeword_len: usize,
+            node: *mut u8,
+        ) -> u32;
+
+        /// Writes `start` with answer 0 only.
+        pub fn jirvents_view(
+            k: usize,
+            r: usize,
+            w: usize,
+            n: usize,
+            b: usize,
+            codeword: *const u8,
+            codeword_len: usize,
+            node: u8,
+            start: *mut usize,
+        ) -> u32;
+
+        /// Writes `column` with answer 15 only.
+        pub fn jirvents_invert(
+            side: usize,
+            matrix: *const u8,
+            matrix_len: usize,
+            out: *mut u8,
+            out_len: usize,
+            column: *mut usize,
+        ) -> u32;
+    }
+}
+
+/// An answer as a result.
+fn served(number: u32) -> Result<(), Refusal> {
+    match number {
+        0 => Ok(()),
+        number => Err(Refusal { number }),
+    }
+}
+
+/// Writes to `codeword` (n·b bytes) the blocks of a message (k·b bytes) and a
+/// slack ((r - k)·b bytes).
+///
+/// Puts the questions 1 to 6.
+pub fn encode(p: Params, message: &[u8], slack: &[u8], codeword: &mut [u8]) -> Result<(), Refusal> {
+    // SAFETY: each pointer and length is that of a slice borrowed for the call.
+    served(unsafe {
+        raw::jirvents_encode(
+            p.k,
+            p.r,
+            p.w,
+            p.n,
+            p.b,
+            message.as_ptr(),
+            message.len(),
+            slack.as_ptr(),
+            slack.len(),
+            codeword.as_mut_ptr(),
+            codeword.len(),
+        )
+    })
+}
+
+/// Writes to `out` (k·b bytes) the message that the blocks of `from`, r nodes,
+/// hold; `codeword` has n·b bytes. Whether the blocks agree is not tested: any
+/// r blocks hold one message.
+///
+/// Puts the questions 1 to 8.
+pub fn decode(p: Params, codeword: &[u8], from: u32, out: &mut [u8]) -> Result<(), Refusal> {
+    // SAFETY: each pointer and length is that of a slice borrowed for the call.
+    served(unsafe {
+        raw::jirvents_decode(
+            p.k,
+            p.r,
+            p.w,
+            p.n,
+            p.b,
+            codeword.as_ptr(),
+            codeword.len(),
+            from,
+            out.as_mut_ptr(),
+            out.len(),
+        )
+    })
+}
+
+/// Writes to `out` (w·b bytes) what a change of the message (k·b bytes, to be
+/// added to it) adds to the blocks of `to`, w nodes, in rising order. All other
+/// blocks stay, and no block has to be read.
+///
+/// Puts the questions 1 to 8.
+pub fn delta(p: Params, change: &[u8], to: u32, out: &mut [u8]) -> Result<(), Refusal> {
+    // SAFETY: each pointer and length is that of a slice borrowed for the call.
+    served(unsafe {
+        raw::jirvents_delta(
+            p.k,
+            p.r,
+            p.w,
+            p.n,
+            p.b,
+            change.as_ptr(),
+            change.len(),
+            to,
+            out.as_mut_ptr(),
+            out.len(),
+        )
+    })
+}
+
+/// Adds a change of the message (k·b bytes) through the nodes of `to`: each of
+/// their w blocks in `codeword` (n·b bytes) gets what [`delta`] tells. Every
+/// other byte stays.
+///
+/// Puts the questions 1 to 8.
+pub fn update(p: Params, codeword: &mut [u8], change: &[u8], to: u32) -> Result<(), Refusal> {
+    // SAFETY: each pointer and length is that of a slice borrowed for the call.
+    served(unsafe {
+        raw::jirvents_update(
+            p.k,
+            p.r,
+            p.w,
+            p.n,
+            p.b,
+            codeword.as_mut_ptr(),
+            codeword.len(),
+            change.as_ptr(),
+            change.len(),
+            to,
+        )
+    })
+}
+
+/// Writes in `codeword` (n·b bytes) the blocks of the nodes of `lost` anew, from
+/// the blocks of `from`, r other nodes. Every other byte stays; `lost` may be
+/// empty.
+///
+/// Puts the questions 1 to 9.
+pub fn repair(p: Params, codeword: &mut [u8], from: u32, lost: u32) -> Result<(), Refusal> {
+    // SAFETY: the pointer and length are those of a slice borrowed for the call.
+    served(unsafe {
+        raw::jirvents_repair(
+            p.k,
+            p.r,
+            p.w,
+            p.n,
+            p.b,
+            codeword.as_mut_ptr(),
+            codeword.len(),
+            from,
+            lost,
+        )
+    })
+}
+
+/// Writes to `out` (n'·b bytes, the shape's n') the codeword for a new shape and
+/// a new message (k'·b bytes). `codeword` has the old n·b bytes, `from` names r
+/// old nodes, `to` w' of the new ones. Nodes of `to` and nodes above n get new
+/// blocks. Any other block is copied from `codeword` as it is, so a flat node
+/// can be left out of both sets.
+///
+/// Puts the questions 1 to 5, 11 to 14, 6, 7, 8.
+pub fn reconfigure(
+    p: Params,
+    shape: Shape,
+    codeword: &[u8],
+    from: u32,
+    to: u32,
+    message: &[u8],
+    out: &mut [u8],
+) -> Result<(), Refusal> {
+    // SAFETY: each pointer and length is that of a slice borrowed for the call.
+    served(unsafe {
+        raw::jirvents_reconfigure(
+            p.k,
+            p.r,
+            p.w,
+            p.n,
+            p.b,
+            shape.k,
+            shape.r,
+            shape.w,
+            shape.n,
+            codeword.as_ptr(),
+            codeword.len(),
+            from,
+            to,
+            message.as_ptr(),
+            message.len(),
+            out.as_mut_ptr(),
+            out.len(),
+        )
+    })
+}
+
+/// Compares all blocks of `codeword` (n·b bytes) with what the blocks of the
+/// nodes 1 to r tell: `None` if they agree, else the lowest node that differs.
+///
+/// Puts the questions 1 to 6.
+pub fn check(p: Params, codeword: &[u8]) -> Result<Option<u8>, Refusal> {
+    let mut node = 0;
+    // SAFETY: the pointer and length are those of a slice borrowed for the call,
+    // and `node` is a local.
+    served(unsafe {
+        raw::jirvents_check(
+            p.k,
+            p.r,
+            p.w,
+            p.n,
+            p.b,
+            codeword.as_ptr(),
+            codeword.len(),
+            &mut node,
+        )
+    })?;
+    Ok((node != 0).then_some(node))
+}
+
+/// The block of one node, counted from 1: b of the n·b bytes of `codeword`.
+///
+/// Puts the questions 1 to 6 and 10.
+pub fn view(p: Params, codeword: &[u8], node: u8) -> Result<&[u8], Refusal> {
+    let mut start = 0;
+    // SAFETY: the pointer and length are those of a slice borrowed for the call,
+    // and `start` is a local.
+    served(unsafe {
+        raw::jirvents_view(
+            p.k,
+            p.r,
+            p.w,
+            p.n,
+            p.b,
+            codeword.as_ptr(),
+            codeword.len(),
+            node,
+            &mut start,
+        )
+    })?;
+    Ok(&codeword[start..start + p.b])
+}
+
+/// Writes to `out` the inverse of a square matrix over the field. Both have
+/// side·side bytes and are stored by rows.
+///
+/// Puts the questions 16, 6, 15.
+pub fn invert(side: usize, matrix: &[u8], out: &mut [u8]) -> Result<(), InvertError> {
+    let mut column = 0;
+    // SAFETY: each pointer and length is that of a slice borrowed for the call,
+    // and `column` is a local.
+    let number = unsafe {
+        raw::jirvents_invert(
+            side,
+            matrix.as_ptr(),
+            matrix.len(),
+            out.as_mut_ptr(),
+            out.len(),
+            &mut column,
+        )
+    };
+    match number {
+        15 => Err(InvertError::Singular { column }),
+        number => served(number).map_err(InvertError::Refused),
+    }
+}
+
+/// What the safe functions do not show: numbers that are not written.
+#[cfg(test)]
+mod tests {
+    use super::raw::{jirvents_check, jirvents_invert, jirvents_view};
+
+    /// Check and view on a codeword of these lengths, for (1,2,2,3) and b = 2.
+    fn check_and_view(b: usize, length: usize, node: u8) -> [(u32, usize); 2] {
+        let codeword = [7; 8];
+        let (mut differing, mut start) = (99, 99);
+        // SAFETY: `length` is at most that of the codeword.
+        let numbers = unsafe {
+            let (codeword, differing) = (codeword.as_ptr(), &mut differing);
+            [
+                jirvents_check(1, 2, 2, 3, b, codeword, length, differing),
+                jirvents_view(1, 2, 2, 3, b, codeword, length, node, &mut start),
+            ]
+        };
+        [(numbers[0], usize::from(differing)), (numbers[1], start)]
+    }
+
+    #[test]
+    fn a_refusal_leaves_node_and_start() {
+        assert_eq!(check_and_view(0, 6, 1), [(5, 99), (5, 99)]);
+        assert_eq!(check_and_view(2, 7, 1), [(6, 99), (6, 99)]);
+        assert_eq!(check_and_view(2, 6, 0), [(0, 3), (10, 99)]);
+        assert_eq!(check_and_view(2, 6, 4), [(0, 3), (10, 99)]);
+        assert_eq!(check_and_view(2, 6, 3), [(0, 3), (0, 4)]);
+    }
+
+    /// The inverse of a matrix of two rows, told of this side.
+    fn inverted(side: usize, matrix: [u8; 4]) -> (u32, usize) {
+        let (mut out, mut column) = ([0; 4], 99);
+        let (from, to) = (matrix.as_ptr(), out.as_mut_ptr());
+        // SAFETY: both are four bytes long.
+        let number = unsafe { jirvents_invert(side, from, 4, to, 4, &mut column) };
+        (number, column)
+    }
+
+    #[test]
+    fn only_question_15_gives_a_column() {
+        assert_eq!(inverted(2, [1, 0, 0, 1]), (0, 99));
+        assert_eq!(inverted(2, [0, 1, 0, 1]), (15, 1));
+        assert_eq!(inverted(2, [1, 0, 1, 0]), (15, 2));
+        assert_eq!(inverted(3, [1, 0, 0, 1]), (6, 99));
+        assert_eq!(inverted(33, [1, 0, 0, 1]), (16, 99));
+    }
+}

@@ -1,0 +1,228 @@
+//! One call with all its arguments, to be put to any implementation.
+
+use crate::calls::Move;
+use crate::{is_sum_of_others, Arrangement, Shape};
+
+/// An implementation of the calls. Each gives its number and writes its buffer
+/// in place.
+pub trait Calls {
+    /// The column goes with 15 only.
+    fn inverse(&self, side: u64, matrix: &[u8], out: &mut [u8]) -> (u64, Option<u64>);
+    fn setup(&self, a: &Arrangement, message: &[u8], slack: &[u8], record: &mut [u8]) -> u64;
+    fn reading(&self, a: &Arrangement, record: &[u8], read: u32, out: &mut [u8]) -> u64;
+    fn difference(&self, a: &Arrangement, d: &[u8], write: u32, out: &mut [u8]) -> u64;
+    fn change(&self, a: &Arrangement, record: &mut [u8], d: &[u8], write: u32) -> u64;
+    fn rebuild(&self, a: &Arrangement, record: &mut [u8], read: u32, lost: u32) -> u64;
+    fn rearrangement(&self, a: &Arrangement, record: &[u8], given: &Move, new: &mut [u8]) -> u64;
+    fn check(&self, a: &Arrangement, record: &[u8]) -> (u64, Option<u64>);
+    fn view<'r>(&self, a: &Arrangement, record: &'r [u8], trap: u64) -> (u64, &'r [u8]);
+}
+
+/// This crate's own calls.
+pub struct Reference;
+
+impl Calls for Reference {
+    fn inverse(&self, side: u64, matrix: &[u8], out: &mut [u8]) -> (u64, Option<u64>) {
+        crate::inverse(side, matrix, out)
+    }
+
+    fn setup(&self, a: &Arrangement, message: &[u8], slack: &[u8], record: &mut [u8]) -> u64 {
+        crate::setup(a, message, slack, record)
+    }
+
+    fn reading(&self, a: &Arrangement, record: &[u8], read: u32, out: &mut [u8]) -> u64 {
+        crate::reading(a, record, read, out)
+    }
+
+    fn difference(&self, a: &Arrangement, d: &[u8], write: u32, out: &mut [u8]) -> u64 {
+        crate::difference(a, d, write, out)
+    }
+
+    fn change(&self, a: &Arrangement, record: &mut [u8], d: &[u8], write: u32) -> u64 {
+        crate::change(a, record, d, write)
+    }
+
+    fn rebuild(&self, a: &Arrangement, record: &mut [u8], read: u32, lost: u32) -> u64 {
+        crate::rebuild(a, record, read, lost)
+    }
+
+    fn rearrangement(&self, a: &Arrangement, record: &[u8], given: &Move, new: &mut [u8]) -> u64 {
+        crate::rearrangement(a, record, given, new)
+    }
+
+    fn check(&self, a: &Arrangement, record: &[u8]) -> (u64, Option<u64>) {
+        crate::check(a, record)
+    }
+
+    fn view<'r>(&self, a: &Arrangement, record: &'r [u8], trap: u64) -> (u64, &'r [u8]) {
+        crate::view(a, record, trap)
+    }
+}
+
+/// A call and its arguments; a buffer that is written has what it holds before.
+#[derive(Clone, Debug)]
+pub enum Case {
+    Inverse {
+        side: u64,
+        matrix: Vec<u8>,
+        out: Vec<u8>,
+    },
+    Setup {
+        a: Arrangement,
+        message: Vec<u8>,
+        slack: Vec<u8>,
+        record: Vec<u8>,
+    },
+    Reading {
+        a: Arrangement,
+        record: Vec<u8>,
+        read: u32,
+        out: Vec<u8>,
+    },
+    Difference {
+        a: Arrangement,
+        d: Vec<u8>,
+        write: u32,
+        out: Vec<u8>,
+    },
+    Change {
+        a: Arrangement,
+        record: Vec<u8>,
+        d: Vec<u8>,
+        write: u32,
+    },
+    Rebuild {
+        a: Arrangement,
+        record: Vec<u8>,
+        read: u32,
+        lost: u32,
+    },
+    Rearrangement {
+        a: Arrangement,
+        record: Vec<u8>,
+        read: u32,
+        to: Shape,
+        write: u32,
+        message: Vec<u8>,
+        new: Vec<u8>,
+    },
+    Check {
+        a: Arrangement,
+        record: Vec<u8>,
+    },
+    View {
+        a: Arrangement,
+        record: Vec<u8>,
+        trap: u64,
+    },
+}
+
+/// What a call leaves.
+#[derive(Clone, Debug, PartialEq, Eq)]
+pub struct Outcome {
+    pub number: u64,
+    /// What the buffer holds; of a view, the part.
+    pub bytes: Vec<u8>,
+    /// Check's trap.
+    pub trap: Option<u64>,
+    /// Of the inverse: 15 came with a column that is a sum of multiples of the
+    /// others, any other number without a column.
+    pub column_right: bool,
+}
+
+impl Outcome {
+    fn new(number: u64, bytes: Vec<u8>) -> Outcome {
+        Outcome {
+            number,
+            bytes,
+            trap: None,
+            column_right: true,
+        }
+    }
+}
+
+impl Case {
+    /// Puts the call to an implementation.
+    pub fn run(&self, calls: &dyn Calls) -> Outcome {
+        match self {
+            Case::Inverse { side, matrix, out } => {
+                let mut out = out.clone();
+                let (number, column) = calls.inverse(*side, matrix, &mut out);
+                let right = |c| is_sum_of_others(*side, matrix, c);
+                Outcome {
+                    column_right: column.map(right) == (number == 15).then_some(true),
+                    ..Outcome::new(number, out)
+                }
+            }
+            Case::Setup {
+                a,
+                message,
+                slack,
+                record,
+            } => {
+                let mut record = record.clone();
+                Outcome::new(calls.setup(a, message, slack, &mut record), record)
+            }
+            Case::Reading {
+                a,
+                record,
+                read,
+                out,
+            } => {
+                let mut out = out.clone();
+                Outcome::new(calls.reading(a, record, *read, &mut out), out)
+            }
+            Case::Difference { a, d, write, out } => {
+                let mut out = out.clone();
+                Outcome::new(calls.difference(a, d, *write, &mut out), out)
+            }
+            Case::Change {
+                a,
+                record,
+                d,
+                write,
+            } => {
+                let mut record = record.clone();
+                Outcome::new(calls.change(a, &mut record, d, *write), record)
+            }
+            Case::Rebuild {
+                a,
+                record,
+                read,
+                lost,
+            } => {
+                let mut record = record.clone();
+                Outcome::new(calls.rebuild(a, &mut record, *read, *lost), record)
+            }
+            Case::Rearrangement {
+                a,
+                record,
+                read,
+                to,
+                write,
+                message,
+                new,
+            } => {
+                let mut new = new.clone();
+                let given = Move {
+                    read: *read,
+                    to: *to,
+                    write: *write,
+                    message,
+                };
+                Outcome::new(calls.rearrangement(a, record, &given, &mut new), new)
+            }
+            Case::Check { a, record } => {
+                let (number, trap) = calls.check(a, record);
+                Outcome {
+                    trap,
+                    ..Outcome::new(number, Vec::new())
+                }
+            }
+            Case::View { a, record, trap } => {
+                let (number, part) = calls.view(a, record, *trap);
+                Outcome::new(number, part.to_vec())
+            }
+        }
+    }
+}

@@ -1,0 +1,222 @@
+//! Files of calls, a line each: the call, its arguments as name=value, an arrow,
+//! the answer, and what the buffer holds after it.
+
+use crate::cases::{Calls, Case, Outcome};
+use crate::{Arrangement, Shape};
+use std::collections::BTreeMap;
+
+pub type Parsed<T> = Result<T, String>;
+
+/// A line's named values.
+struct Fields<'a> {
+    values: BTreeMap<&'a str, &'a str>,
+}
+
+impl<'a> Fields<'a> {
+    fn parse(text: &'a str) -> Parsed<Fields<'a>> {
+        let mut values = BTreeMap::new();
+        for word in text.split_whitespace() {
+            let (name, value) = word.split_once('=').ok_or(format!("no '=' in {word}"))?;
+            values.insert(name, value);
+        }
+        Ok(Fields { values })
+    }
+
+    fn text(&self, name: &str) -> Parsed<&'a str> {
+        let found = self.values.get(name).copied();
+        found.ok_or_else(|| format!("{name} is missing"))
+    }
+
+    fn number(&self, name: &str) -> Parsed<u64> {
+        let text = self.text(name)?;
+        text.parse().map_err(|_| format!("{name} is no number"))
+    }
+
+    fn choice(&self, name: &str) -> Parsed<u32> {
+        let text = self.text(name)?;
+        u32::from_str_radix(text, 16).map_err(|_| format!("{name} is no choice"))
+    }
+
+    fn bytes(&self, name: &str) -> Parsed<Vec<u8>> {
+        let text = self.text(name)?;
+        from_hex(text).ok_or_else(|| format!("{name} is not in hex"))
+    }
+
+    fn shape(&self, mark: &str) -> Parsed<Shape> {
+        let number = |name: &str| self.number(&format!("{name}{mark}"));
+        Ok(Shape::new(
+            number("k")?,
+            number("r")?,
+            number("w")?,
+            number("n")?,
+        ))
+    }
+
+    fn arrangement(&self) -> Parsed<Arrangement> {
+        Ok(self.shape("")?.with(self.number("B")?))
+    }
+
+    fn case(&self, call: &str) -> Parsed<Case> {
+        Ok(match call {
+            "inverse" => Case::Inverse {
+                side: self.number("side")?,
+                matrix: self.bytes("matrix")?,
+                out: self.bytes("out")?,
+            },
+            "setup" => Case::Setup {
+                a: self.arrangement()?,
+                message: self.bytes("message")?,
+                slack: self.bytes("slack")?,
+                record: self.bytes("record")?,
+            },
+            "reading" => Case::Reading {
+                a: self.arrangement()?,
+                record: self.bytes("record")?,
+                read: self.choice("R")?,
+                out: self.bytes("out")?,
+            },
+            "difference" => Case::Difference {
+                a: self.arrangement()?,
+                d: self.bytes("d")?,
+                write: self.choice("W")?,
+                out: self.bytes("out")?,
+            },
+            "change" => Case::Change {
+                a: self.arrangement()?,
+                record: self.bytes("record")?,
+                d: self.bytes("d")?,
+                write: self.choice("W")?,
+            },
+            "rebuild" => Case::Rebuild {
+                a: self.arrangement()?,
+                record: self.bytes("record")?,
+                read: self.choice("R")?,
+                lost: self.choice("L")?,
+            },
+            "rearrange" => Case::Rearrangement {
+                a: self.arrangement()?,
+                record: self.bytes("record")?,
+                read: self.choice("R")?,
+                to: self.shape("'")?,
+                write: self.choice("W'")?,
+                message: self.bytes("message")?,
+                new: self.bytes("new")?,
+            },
+            "check" => Case::Check {
+                a: self.arrangement()?,
+                record: self.bytes("record")?,
+            },
+            "view" => Case::View {
+                a: self.arrangement()?,
+                record: self.bytes("record")?,
+                trap: self.number("trap")?,
+            },
+            _ => return Err(format!("unknown call {call}")),
+        })
+    }
+}
+
+fn from_hex(text: &str) -> Option<Vec<u8>> {
+    if text == "-" {
+        return Some(Vec::new());
+    }
+    let digits: Option<Vec<u32>> = text.chars().map(|c| c.to_digit(16)).collect();
+    let digits = digits.filter(|d| d.len() % 2 == 0)?;
+    let byte = |pair: &[u32]| (pair[0] * 16 + pair[1]) as u8;
+    Some(digits.chunks_exact(2).map(byte).collect())
+}
+
+fn to_hex(bytes: &[u8]) -> String {
+    if bytes.is_empty() {
+        return "-".to_string();
+    }
+    bytes.iter().map(|b| format!("{b:02x}")).collect()
+}
+
+/// An outcome as a line has it behind its arrow.
+fn behind_arrow(case: &Case, outcome: &Outcome) -> String {
+    let name = match case {
+        Case::Inverse { .. } | Case::Reading { .. } | Case::Difference { .. } => "out",
+        Case::Setup { .. } | Case::Change { .. } | Case::Rebuild { .. } => "record",
+        Case::Rearrangement { .. } => "new",
+        Case::View { .. } => "part",
+        Case::Check { .. } => {
+            let trap = outcome.trap.map_or("-".to_string(), |t| t.to_string());
+            return format!("{} trap={trap}", outcome.number);
+        }
+    };
+    format!("{} {name}={}", outcome.number, to_hex(&outcome.bytes))
+}
+
+/// How a line and an implementation's outcome compare.
+#[derive(Clone, Copy, Debug, PartialEq, Eq)]
+pub enum Verdict {
+    Same,
+    NumberDiffers,
+    BytesDiffer,
+    ColumnWrong,
+    /// The line has the old record where the new one is due.
+    OldRecordGiven,
+}
+
+fn compare(fields: &Fields, expected: &str, found: &str) -> Verdict {
+    let number = |text: &str| text.split(' ').next().map(str::to_string);
+    if expected == found {
+        return Verdict::Same;
+    }
+    if number(expected) != number(found) {
+        return Verdict::NumberDiffers;
+    }
+    let behind = expected.split_once("new=").map(|(_, bytes)| bytes);
+    match behind {
+        Some(bytes) if fields.text("record") == Ok(bytes) => Verdict::OldRecordGiven,
+        _ => Verdict::BytesDiffer,
+    }
+}
+
+/// A line that was tried.
+pub struct Tried<'a> {
+    pub call: &'a str,
+    pub expected: &'a str,
+    pub found: String,
+    pub verdict: Verdict,
+}
+
+/// Puts one line's call to an implementation.
+pub fn try_line<'a>(line: &'a str, calls: &dyn Calls) -> Parsed<Tried<'a>> {
+    let (before, expected) = line.split_once(" -> ").ok_or("no arrow")?;
+    let (call, rest) = before.split_once(' ').ok_or("no arguments")?;
+    let fields = Fields::parse(rest)?;
+    let case = fields.case(call)?;
+    let outcome = case.run(calls);
+    let expected = expected.trim_end();
+    let found = behind_arrow(&case, &outcome);
+    let verdict = if outcome.column_right {
+        compare(&fields, expected, &found)
+    } else {
+        Verdict::ColumnWrong
+    };
+    Ok(Tried {
+        call,
+        expected,
+        found,
+        verdict,
+    })
+}
+
+/// Puts every line's call to an implementation. All must be the same but the
+/// bytes of rearrangements where the line has the old record in place of the
+/// new. Gives the count of lines, and of those whose number alone was compared.
+pub fn try_all(text: &str, calls: &dyn Calls) -> Parsed<(usize, usize)> {
+    let (mut lines, mut numbers_only) = (0, 0);
+    for line in text.lines() {
+        let tried = try_line(line, calls)?;
+        match tried.verdict {
+            Verdict::Same => {}
+            Verdict::OldRecordGiven => numbers_only += 1,
+            verdict => return Err(format!("{verdict:?}: {line}\nfound {}", tried.found)),
+        }
+        lines += 1;
+    }
+    Ok((lines, numbers_only))
+}
