@@ -1,4 +1,4 @@
--- The customer's three demands on one page. Demands 1 and 2 are the contracts of the calls (crates access, maintenance and matrix, src/): each is proved to
+-- The customer's three demands on one page. Demands 1 and 2 are the contracts of the calls (crates access, updates, maintenance and matrix, src/): each is proved to
 -- meet the post-condition named here, for all arguments (view_status answers viewGate). This page says what such a post-condition settles, and states demand 3. Assumes nothing.
 use mathlib.Core.Path.{_≡_}
 use mathlib.Core.List.{List, [], _∷_}

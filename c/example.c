@@ -1,0 +1,58 @@
+/* A record on three cards, one of them flat: document 01's figures through the C functions. Prints each step; exit status 1 if one is not as it should be. */
+#include <stdio.h>
+#include <string.h>
+
+#include "jirvents.h"
+
+static int failed = 0;
+
+static void expect(const char *step, int holds) {
+    printf("%-34s %s\n", step, holds ? "ok" : "WRONG");
+    failed |= !holds;
+}
+
+int main(void) {
+    const size_t k = 1, r = 2, w = 2, n = 3, b = 1;
+    const uint8_t message[] = {0x07}, slack[] = {0x01}, change[] = {0x05};
+    uint8_t card[3], read[1], added[2];
+    uint32_t answer;
+
+    answer = jirvents_encode(k, r, w, n, b, message, 1, slack, 1, card, 3);
+    expect("set-up gives 06 0A 0C", answer == 0 && !memcmp(card, "\x06\x0A\x0C", 3));
+
+    answer = jirvents_delta(k, r, w, n, b, change, 1, 3, added, 2);
+    expect("difference is 06 06", answer == 0 && !memcmp(added, "\x06\x06", 2));
+    answer = jirvents_update(k, r, w, n, b, card, 3, change, 1, 3);
+    expect("change through 1, 2: 00 0C 0C", answer == 0 && !memcmp(card, "\x00\x0C\x0C", 3));
+    answer = jirvents_decode(k, r, w, n, b, card, 3, 5, read, 1);
+    expect("nodes 1, 3 read 02", answer == 0 && read[0] == 0x02);
+
+    uint8_t node = 9;
+    answer = jirvents_check(k, r, w, n, b, card, 3, &node);
+    expect("all blocks agree", answer == 0 && node == 0);
+    card[2] = 0xFF;
+    answer = jirvents_check(k, r, w, n, b, card, 3, &node);
+    expect("node 3 is damaged", answer == 0 && node == 3);
+    answer = jirvents_repair(k, r, w, n, b, card, 3, 3, 4);
+    expect("and is rebuilt from 1, 2", answer == 0 && card[2] == 0x0C);
+
+    size_t start = 9;
+    answer = jirvents_view(k, r, w, n, b, card, 3, 2, &start);
+    expect("node 2's block begins at 1", answer == 0 && start == 1);
+    answer = jirvents_view(k, r, w, n, b, card, 3, 4, &start);
+    expect("there is no node 4: 10", answer == 10 && start == 1);
+
+    const uint8_t both[] = {0x01, 0x01};
+    uint8_t next[3];
+    answer = jirvents_reconfigure(k, r, w, n, b, 2, 2, 3, 3, card, 3, 6, 7, both, 2, next, 3);
+    expect("rearranged to (2,2,3,3): 00 06 06", answer == 0 && !memcmp(next, "\x00\x06\x06", 3));
+
+    const uint8_t two[] = {0x02}, singular[] = {0, 1, 0, 1};
+    uint8_t inverse[4] = {0};
+    size_t column = 0;
+    answer = jirvents_invert(1, two, 1, inverse, 1, &column);
+    expect("the inverse of 02 is 8E", answer == 0 && inverse[0] == 0x8E);
+    answer = jirvents_invert(2, singular, 4, inverse, 4, &column);
+    expect("00 01 / 00 01 has none: column 1", answer == 15 && column == 1);
+    return failed;
+}
