@@ -7,11 +7,11 @@ use Prim.Native.Nat.{ℕ, suc, _+_, _-_, _*_, _^_, _≤_, _<_}
 use native.Mathlib.Nat.{mul-le-mul}
 use native.Mathlib.Omega.{arith}
 use lib.Count.{ones-le}
-use lib.ListN.{length, getD, take, replicate, length-append, length-replicate, getD-replicate, List·getD-append, List·getD-eq-default}
+use lib.ListN.{length, getD, take, replicate, length-append, length-replicate, List·getD-append, List·getD-eq-default}
 use lib.Seq.{take-at, getD-take, getD-append-add, length-take-le}
 use Rattle.base.specs.Seq.{cell}
 use Rattle.base.proofs.Cases.{lt-or}
-use Rattle.base.proofs.Seq.{length-tabulate, getD-tabulate, length-blocks, cell-blocks}
+use Rattle.base.proofs.Seq.{length-tabulate, getD-tabulate, length-blocks, cell-blocks, zeros-at}
 use Rattle.base.proofs.Parts.{row-ends}
 use Rattle.field.specs.Field.{mul, pow}
 use Rattle.field.specs.FiniteSum.{sum}
@@ -56,10 +56,6 @@ length-listed s h = length-nodes (has s) 32 ∙ sym (size-count 32 s h)
 -- what NodeSet::list gives: the set's nodes first, then zeros
 abbrev pub Lists : ℕ → List ℕ → Type 0
 Lists s l = l ≡ listed s ++ replicate (32 - size s) 0
-
-zeros-at : (n j : ℕ) → getD (replicate {A = ℕ} n 0) j 0 ≡ 0
-zeros-at n j =
-    ⊎-elim (getD-replicate n j 0 0) (λ h. List·getD-eq-default (replicate n 0) 0 (omega (arith, length-replicate {A = ℕ} n 0))) (lt-or j n)
 
 module _ (s : ℕ) (h : s < 2 ^ 32) (l : List ℕ) (e : Lists s l) where
   pub list-length : length l ≡ 32

@@ -109,9 +109,13 @@ bothAsked a t old new message =
     (paramsAsked a ++ shapeAsked 10 t) ++
     lengthsAsked ((eqb old (a .n * a .b) && eqb new (t .n * a .b)) && eqb message (t .k * a .b)) ∷ []
 
+-- the bytes of at most 32 blocks
+pub blocks-most : (count b : ℕ) → count ≤ 32 → b ≤ 1024 → count * b ≤ 32768
+blocks-most count b h k = mul-le-mul h k
+
 -- the bytes of at most n blocks are a usize
 pub blocks-fit : {a : Params} → Valid a → (x : ℕ) → x ≤ a .n → Fits w64 (x * a .b)
-blocks-fit {a} v x h = omega (arith, mul-le-mul (le-trans h (v .shape .n-high)) (v .b-high))
+blocks-fit {a} v x h = omega (arith, blocks-most x (a .b) (le-trans h (v .shape .n-high)) (v .b-high))
 
 pub n-fits : {a : Params} → Valid a → Fits w64 (a .n * a .b)
 n-fits {a} v = blocks-fit v (a .n) (omega arith)

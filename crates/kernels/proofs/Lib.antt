@@ -1,5 +1,8 @@
 pub mod Laws
-mod Overlap
 mod Fitting
 mod Summing
+mod Stretches
 mod RowByRow
+mod Multiples
+mod Columns
+mod Spans

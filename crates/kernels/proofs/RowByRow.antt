@@ -1,30 +1,21 @@
 -- A product added row by row: what the parts that the code lends ask, what a row holds then, and what all hold. Assumes nothing.
 use mathlib.Core.Path.{_≡_, ap, ap₂, _∙_, subst⁻¹}
 use mathlib.Core.List.{List}
-use Prim.Native.Nat.{ℕ, _+_, _-_, _*_, _≤_, _<_}
+use Prim.Native.Nat.{ℕ, _+_, _*_, _≤_, _<_}
 use native.Mathlib.Omega.{arith}
-use lib.ListN.{length, getD, take, drop, length-drop, replicate, length-replicate, getD-replicate}
-use lib.Seq.{length-take-le, getD-take, getD-drop}
+use lib.ListN.{length, getD, replicate, length-replicate, getD-replicate}
 use Rattle.base.specs.Seq.{cell}
 use Rattle.base.proofs.Parts.{Blocked, blocked-more, partOf, putBlock, length-partOf, partOf-at, row-ends}
 use Rattle.base.proofs.Seq.{cell-lt}
 use Rattle.field.specs.Field.{add, mul}
 use Rattle.field.proofs.Addition.{add-zero-left}
 use Rattle.field.proofs.FiniteSum.{sum-ext}
-use Rattle.kernels.specs.Blocks.{product, Fits, Multiplied, Added, Inside, combined, Accumulated}
+use Rattle.kernels.specs.Blocks.{product, Fits, Multiplied, Added, Inside, rowOf, combined, Accumulated}
+use Rattle.kernels.proofs.Stretches.{stretch-at}
 
--- row i of the coefficients, as the code lends it
-abbrev pub rowOf : ℕ → ℕ → ℕ → List ℕ → List ℕ
-rowOf stride width i coeffs = take (i * stride + width - i * stride) (drop (i * stride) coeffs)
-
-pub length-rowOf : (stride width i : ℕ) (coeffs : List ℕ) → i * stride + width ≤ length coeffs → length (rowOf stride width i coeffs) ≡ width
-length-rowOf stride width i coeffs h =
-    length-take-le (i * stride + width - i * stride) (drop (i * stride) coeffs) (omega (arith, length-drop (i * stride) coeffs)) ∙ omega arith
-
-rowOf-at : (stride width i : ℕ) (coeffs : List ℕ) (j : ℕ) → j < width → getD (rowOf stride width i coeffs) j 0 ≡ cell stride coeffs i j
+pub rowOf-at : (stride width i : ℕ) (coeffs : List ℕ) (j : ℕ) → j < width → getD (rowOf stride width i coeffs) j 0 ≡ cell stride coeffs i j
 unfolding cell
-rowOf-at stride width i coeffs j h =
-    getD-take (i * stride + width - i * stride) (drop (i * stride) coeffs) j 0 (omega arith) ∙ getD-drop (i * stride) coeffs j 0
+rowOf-at stride width i coeffs j h = stretch-at (i * stride) width coeffs j h
 
 row-combined : (b stride i p : ℕ) (src places coeffs : List ℕ)
     → combined b src places (rowOf stride (length places) i coeffs) p ≡ product b src places coeffs stride i p

@@ -2,24 +2,11 @@
 use mathlib.Core.Path.{_≡_}
 use mathlib.Core.Bool.{Bool, true, false}
 use mathlib.Core.List.{List}
-use Prim.Native.Nat.{ℕ, suc, _+_, _*_, _≤_, _<_}
-use lib.ListN.{length, getD}
+use Prim.Native.Nat.{ℕ, suc, _+_, _-_, _*_, _≤_, _<_}
+use lib.ListN.{length, getD, take, drop}
 use Rattle.base.specs.Seq.{tabulate, cell}
 use Rattle.field.specs.Field.{add, mul}
 use Rattle.field.specs.FiniteSum.{sum}
-
--- xs + ys, byte by byte; a byte that ys does not have counts as 00
-unfoldable pub plus : List ℕ → List ℕ → List ℕ
-plus xs ys = tabulate (length xs) (λ p. add (getD xs p 0) (getD ys p 0))
-
--- ys laid over xs: byte p is that of ys, or that of xs where ys has none
-unfoldable pub over : List ℕ → List ℕ → List ℕ
-over xs ys = tabulate (length xs) (λ p. getD ys p (getD xs p 0))
-
--- whether two blocks differ, as a test
-pub record Compared (xs ys : List ℕ) (answer : Bool) : Type 0 where
-  pub same : answer ≡ false → xs ≡ ys
-  pub other : answer ≡ true → xs ≡ ys → ⊥
 
 -- ---- a matrix of coefficients times blocks
 
@@ -62,6 +49,14 @@ Inside b places src = (j : ℕ) → j < length places → suc (getD places j 0) 
 pub record Decided (P : Type 0) (answer : Bool) : Type 0 where
   pub holds : answer ≡ true → P
   pub fails : answer ≡ false → P → ⊥
+
+-- the n bytes of xs from a on, as the code lends them
+abbrev pub stretch : ℕ → ℕ → List ℕ → List ℕ
+stretch a n xs = take (a + n - a) (drop a xs)
+
+-- row i of the coefficients
+abbrev pub rowOf : ℕ → ℕ → ℕ → List ℕ → List ℕ
+rowOf stride width i coeffs = stretch (i * stride) width coeffs
 
 -- xs + c·ys, byte by byte
 unfoldable pub plusMultiple : List ℕ → ℕ → List ℕ → List ℕ

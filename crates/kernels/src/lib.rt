@@ -1,53 +1,17 @@
-// The only loops over the bytes of blocks. Each has one narrow contract, for slices of any lengths, so that it can be replaced by a faster one.
+// A matrix of coefficients times blocks: the loops that the calls spend their time in. The contract is narrow and holds for slices of any lengths, so that the
+// inside can be replaced by a faster one.
+mod tables;
+mod tiles;
+
 use base::is_product;
+use base::wide;
 use field::times;
 ghost use mathlib.Core.Path.{_≡_};
+ghost use mathlib.Core.Bool.{false};
 ghost use Prim.Native.Nat.{_≤_, _<_};
 ghost use lib.ListN.{length, replicate};
-ghost use Rattle.kernels.specs.Blocks.{plus, over, Compared, Fits, Multiplied, Added};
+ghost use Rattle.kernels.specs.Blocks.{Fits, Multiplied, Added};
 ghost use Rattle.kernels.specs.Blocks.{Rows, Inside, Decided, plusMultiple, Accumulated};
-
-// dst += src. A byte that src does not have counts as 00.
-pub fn add_block(dst: &mut [u8], src: &[u8])
-    ensures { λ _. ⌜ now (dst .exit) ≡ plus (now (dst .entry)) (now (src .entry)) ⌝ }
-{
-    let count = shorter(dst.len(), src.len());
-    let mut p = 0;
-    while p < count {
-        dst[p] = dst[p] ^ src[p];
-        p += 1;
-    }
-}
-
-// dst := src, as far as both go.
-pub fn copy_block(dst: &mut [u8], src: &[u8])
-    ensures { λ _. ⌜ now (dst .exit) ≡ over (now (dst .entry)) (now (src .entry)) ⌝ }
-{
-    let size = shorter(dst.len(), src.len());
-    let mut p = 0;
-    while p < size {
-        dst[p] = src[p];
-        p += 1;
-    }
-}
-
-// Whether two blocks differ.
-pub fn differs(x: &[u8], y: &[u8]) -> bool
-    ensures { λ r. ⌜ Compared (now (x .entry)) (now (y .entry)) r ⌝ }
-{
-    let count = x.len();
-    if y.len() != count {
-        return true;
-    }
-    let mut p = 0;
-    while p < count {
-        if x[p] != y[p] {
-            return true;
-        }
-        p += 1;
-    }
-    false
-}
 
 // out += a matrix of coefficients times the blocks of src at the given places. Row i of the coefficients begins at i·stride.
 pub fn add_product(
@@ -64,7 +28,7 @@ pub fn add_product(
     if !fits(rows, b, stride, places, src.len(), coeffs.len(), out.len()) {
         return;
     }
-    add_rows(out, rows, b, src, places, coeffs, stride);
+    add_fitting(out, rows, b, src, places, coeffs, stride);
 }
 
 // out := the same product, whatever out held.
@@ -83,19 +47,7 @@ pub fn product(
         return;
     }
     clear(out);
-    add_rows(out, rows, b, src, places, coeffs, stride);
-}
-
-// The smaller of two numbers.
-fn shorter(x: usize, y: usize) -> usize
-    ensures { λ r. ⌜ r ≤ x ⌝ }
-    ensures { λ r. ⌜ r ≤ y ⌝ }
-    ensures { λ r. ⌜ (r < x → y ≤ r) ⌝ }
-{
-    if x < y {
-        return x;
-    }
-    y
+    add_fitting(out, rows, b, src, places, coeffs, stride);
 }
 
 // Whether the product fits. No step overflows, whatever the numbers.
@@ -153,12 +105,6 @@ fn places_fit(b: usize, places: &[u8], src: usize) -> bool
     true
 }
 
-fn wide(x: u8) -> usize
-    ensures { λ r. ⌜ r ≡ x ⌝ }
-{
-    x as usize
-}
-
 // dst := 0
 fn clear(dst: &mut [u8])
     ensures { λ _. ⌜ now (dst .exit) ≡ replicate (length (now (dst .entry))) 0 ⌝ }
@@ -169,6 +115,44 @@ fn clear(dst: &mut [u8])
         dst[p] = 0;
         p += 1;
     }
+}
+
+// out += the product, by the way that is the faster one.
+fn add_fitting(
+    out: &mut [u8],
+    rows: usize,
+    b: usize,
+    src: &[u8],
+    places: &[u8],
+    coeffs: &[u8],
+    stride: usize,
+)
+    requires { ⌜ Fits rows b stride (now places) (length (now src)) (length (now coeffs)) (length (now out)) ⌝ }
+    ensures { λ _. ⌜ Added rows b stride (now (src .entry)) (now (places .entry)) (now (coeffs .entry)) (now (out .entry)) (now (out .exit)) ⌝ }
+{
+    let width = places.len();
+    if prefers_rows(rows, out.len(), width) {
+        add_rows(out, rows, b, src, places, coeffs, stride);
+        return;
+    }
+    if width <= 8 {
+        tiles::add_narrow(out, rows, b, src, places, coeffs, stride);
+        return;
+    }
+    tiles::add_wide(out, rows, b, src, places, coeffs, stride);
+}
+
+// Whether a product of size bytes is added row by row: few bytes do not pay for tables, and those have room for 32 columns.
+fn prefers_rows(rows: usize, size: usize, width: usize) -> bool
+    ensures { λ r. ⌜ (r ≡ false → width ≤ 32) ⌝ }
+{
+    if 32 < width {
+        return true;
+    }
+    if rows < 2 {
+        return true;
+    }
+    size <= 128
 }
 
 // To each row of out its row of the product is added.

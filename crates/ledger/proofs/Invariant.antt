@@ -194,11 +194,11 @@ wrote-same : (h : Held) (l : Lent) (new : List ℕ) → new ≡ lent h l → wro
 wrote-same h held new e = ap (λ (c : List ℕ). record { params = h .params; codeword = c }) e
 wrote-same h (other bytes) new e = refl
 
-moved-same : (answer : ℕ) (h : Held) (a : Params) (t : Shape) (new : List ℕ) → (answer ≡ 0 → ⊥) → moved answer h a t new ≡ h
+pub moved-same : (answer : ℕ) (h : Held) (a : Params) (t : Shape) (new : List ℕ) → (answer ≡ 0 → ⊥) → moved answer h a t new ≡ h
 moved-same zero h a t new ne = absurd (ne refl)
 moved-same (suc q) h a t new ne = refl
 
-damaged-same : (q : ℕ) (h : Held) (node : ℕ) (bytes : List ℕ) → (q ≡ 0 → ⊥) → damagedHeld q h node bytes ≡ h
+pub damaged-same : (q : ℕ) (h : Held) (node : ℕ) (bytes : List ℕ) → (q ≡ 0 → ⊥) → damagedHeld q h node bytes ≡ h
 damaged-same zero h node bytes ne = absurd (ne refl)
 damaged-same (suc q) h node bytes ne = refl
 

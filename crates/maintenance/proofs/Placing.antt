@@ -12,8 +12,8 @@ use Rattle.base.proofs.Cases.{eq-or}
 use Rattle.base.proofs.Parts.{partOf, length-partOf, partOf-at, putBlock, putBlock-here, putBlock-other, putBlock-length, row-ends}
 use Rattle.params.specs.Nodes.{has, size, count, nodes}
 use Rattle.params.proofs.Sets.{entry, node-at-rank, size-count}
-use Rattle.kernels.specs.Blocks.{over}
-use Rattle.kernels.proofs.Laws.{over-same}
+use Rattle.blocks.specs.Bytes.{over}
+use Rattle.blocks.proofs.Laws.{over-same}
 use Rattle.coefficients.proofs.Laws.{Lists, list-at}
 use Rattle.maintenance.specs.Cores.{Listing, Put}
 use Rattle.maintenance.proofs.PairBlocks.{rank-inside}

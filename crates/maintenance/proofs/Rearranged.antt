@@ -25,8 +25,9 @@ use Rattle.code.specs.Code.{point, block, Gives}
 use Rattle.code.specs.Calls.{Reconfigured}
 use Rattle.code.proofs.Additivity.{block-byte}
 use Rattle.code.proofs.Pairs.{Slack, slack-exists, written-leaves, pair-exists, from-reads}
-use Rattle.kernels.specs.Blocks.{over}
-use Rattle.kernels.proofs.Laws.{over-length, over-at, block-inside}
+use Rattle.blocks.specs.Bytes.{over}
+use Rattle.blocks.proofs.Laws.{over-length, over-at}
+use Rattle.kernels.proofs.Laws.{block-inside}
 use Rattle.coefficients.specs.Coefficients.{inOrder}
 use Rattle.coefficients.proofs.Laws.{size-most, first-length, first-at}
 use Rattle.maintenance.specs.Cores.{Extendable, Extended, Recomputable, Recomputed, Listing, Put}

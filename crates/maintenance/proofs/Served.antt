@@ -4,7 +4,6 @@ use mathlib.Core.Logic.{⊎-elim}
 use mathlib.Core.Bool.{Bool, true, not, _&&_, and-true}
 use mathlib.Core.List.{List}
 use Prim.Native.Nat.{ℕ, suc, _-_, _*_, _^_, min, _≤_, _<_}
-use native.Mathlib.Nat.{mul-le-mul}
 use native.Mathlib.Omega.{arith}
 use borrow.Author.Tests.{leb-true}
 use lib.Dec.{leb}
@@ -25,10 +24,6 @@ use Rattle.code.specs.Calls.{Repaired}
 use Rattle.code.specs.declared.Verdict.{Verdict}
 use Rattle.code.proofs.Pairs.{pair-exists, from-reads, first-reads}
 use Rattle.maintenance.specs.Cores.{Recomputable, Recomputed, Listing, Put, Searched, Served}
-
--- at most 32 blocks
-pub blocks-most : (count b : ℕ) → count ≤ 32 → b ≤ 1024 → count * b ≤ 32768
-blocks-most count b h k = mul-le-mul h k
 
 -- ---- sets as the code finds them
 

@@ -1,9 +1,9 @@
 // Check: whether all blocks come from the pair of the first nodes.
 use crate::recomputing::recompute;
 use base::wide;
+use blocks::differs;
 use code::Verdict;
 use gates::check_gate;
-use kernels::differs;
 use params::Node;
 use params::NodeSet;
 use params::Params;

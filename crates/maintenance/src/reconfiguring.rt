@@ -1,12 +1,12 @@
 // Rearrangement (document 01): from one shape to another, through the blocks of a set R and with the blocks of a set W' made new.
 //
 // Outside W' the new pair has the old pair's blocks. These and the new message settle it, and so every block that is written. The others are copied.
-use crate::blocks::put_blocks;
+use crate::putting::put_blocks;
 use crate::recomputing::extend;
 use crate::recomputing::recompute;
+use blocks::copy_block;
 use coefficients::in_order;
 use gates::reconfigure_gate;
-use kernels::copy_block;
 use params::NodeSet;
 use params::Params;
 use params::Shape;

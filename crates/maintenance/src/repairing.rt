@@ -1,5 +1,5 @@
 // Rebuild: the blocks of lost nodes, from the blocks of others.
-use crate::blocks::put_blocks;
+use crate::putting::put_blocks;
 use crate::recomputing::recompute;
 use gates::repair_gate;
 use params::NodeSet;

@@ -5,9 +5,9 @@ use mathlib.Core.Logic.{⊎-elim}
 use Prim.Native.Nat.{ℕ, _+_, _*_, _≤_, _<_}
 use native.Mathlib.Nat.{not-suc-le-zero, mul-le-mul-left}
 use native.Mathlib.Omega.{arith}
-use lib.ListN.{length, getD, set, replicate, length-replicate, getD-replicate, List·getD-eq-default}
+use lib.ListN.{length, getD, set}
 use lib.Seq.{getD-set-same, getD-set-other}
-use Rattle.base.proofs.Cases.{lt-or, eq-or}
+use Rattle.base.proofs.Cases.{eq-or}
 use Rattle.base.proofs.Seq.{cell-lt}
 use Rattle.matrix.specs.Matrix.{entry}
 use Rattle.matrix.specs.Product.{unit}
@@ -84,9 +84,3 @@ area s hs = omega (arith, mul-le-mul-left s hs)
 
 pub place : (s i k : ℕ) → s ≤ 32 → i < s → k < s → Place s i k
 place s i k hs hi hk = record { within = cell-lt s s i k hi hk; small = area s hs }
-
-pub zeros : (n q : ℕ) → getD (replicate {A = ℕ} n 0) q 0 ≡ 0
-zeros n q =
-    ⊎-elim (getD-replicate {A = ℕ} n q 0 0)
-    (λ h. List·getD-eq-default (replicate {A = ℕ} n 0) 0 (subst (λ (k : ℕ). k ≤ q) (sym (length-replicate {A = ℕ} n 0)) h))
-    (lt-or q n)

@@ -18,14 +18,14 @@ use Rattle.interpolation.proofs.Rows.{cell-take}
 use Rattle.gates.specs.Gates.{damageGate}
 use Rattle.gates.specs.Valid.{Valid}
 use Rattle.params.specs.declared.Params.{Params}
-use Rattle.params.specs.declared.Shape.{Shape}
 use Rattle.params.specs.Params.{reshaped}
 use Rattle.gates.proofs.Valid.{reconfigure-accepted}
 use Rattle.code.specs.Calls.{UpdatePost, RepairPost, DecodePost, ReconfigurePost, Reconfigured}
-use Rattle.kernels.specs.Blocks.{over}
-use Rattle.kernels.proofs.Laws.{over-same}
+use Rattle.blocks.specs.Bytes.{over}
+use Rattle.blocks.proofs.Laws.{over-same}
 use Rattle.ledger.specs.Ledger as ledger
-use Rattle.ledger.specs.Ledger.{Held, gate, Step, chosen, moved, damagedWord, damagedHeld, updated, repaired, decoded, reconfigured, damaged}
+use Rattle.ledger.specs.Ledger.{Held, gate, Step, chosen, damagedWord, damagedHeld, updated, repaired, decoded, reconfigured, damaged}
+use Rattle.ledger.proofs.Invariant.{moved-same, damaged-same}
 use Rattle.season_file.specs.File.{bytesOf}
 use Rattle.season_file.specs.Answers.{answerOf}
 use Rattle.season_file.specs.declared.Event.{Event}
@@ -194,23 +194,15 @@ module _ (a : Params) (input : List ℕ) (f : ReconfigureFields) (z : answerOf a
 
 -- ---- a refused event
 
-kept-damage : (q : ℕ) (h : Held) (i : ℕ) (bytes : List ℕ) → (q ≡ 0 → ⊥) → damagedHeld q h i bytes ≡ h
-kept-damage zero h i bytes ne = absurd (ne refl)
-kept-damage (suc q) h i bytes ne = refl
-
-kept-move : (q : ℕ) (h : Held) (a : Params) (t : Shape) (new : List ℕ) → (q ≡ 0 → ⊥) → moved q h a t new ≡ h
-kept-move zero h a t new ne = absurd (ne refl)
-kept-move (suc q) h a t new ne = refl
-
 -- its call would leave all as it was
 pub refused-step : (h : Held) (input : List ℕ) (e : Event) → (gate h (listed (h .params) input e) ≡ 0 → ⊥) → Step h (listed (h .params) input e) h
 refused-step h input (Update f) ne = updated _ _ (record { number = refl; served = λ z. absurd (ne z); refused = λ _. refl })
 refused-step h input (Repair f) ne = repaired _ _ (record { number = refl; served = λ z. absurd (ne z); refused = λ _. refl })
 refused-step h input (Damage f) ne =
-    subst (Step h (listed (h .params) input (Damage f))) (kept-damage (damageGate (h .params .n) (f .node .0)) h (f .node .0) _ ne) damaged
+    subst (Step h (listed (h .params) input (Damage f))) (damaged-same (damageGate (h .params .n) (f .node .0)) h (f .node .0) _ ne) damaged
 refused-step h input (Decode f) ne = decoded _ _ (record { number = refl; served = λ z. absurd (ne z); refused = λ _. refl })
 refused-step h input (Reconfigure f) ne =
-    subst (Step h (listed (h .params) input (Reconfigure f))) (kept-move _ h (h .params) (f .shape) _ ne)
+    subst (Step h (listed (h .params) input (Reconfigure f))) (moved-same _ h (h .params) (f .shape) _ ne)
     (reconfigured _ _ (record { number = refl; served = λ z. absurd (ne z); refused = λ _. refl }))
 
 refused-prints : (h : Held) (e : Event) → (answerOf (h .params) e ≡ 0 → ⊥) → Prints h e []

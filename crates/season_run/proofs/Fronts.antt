@@ -3,7 +3,7 @@ use mathlib.Core.Path.{_≡_, sym, ap, _∙_}
 use mathlib.Core.List.{List, _++_}
 use mathlib.Core.Logic.{⊎-elim}
 use Prim.Native.Nat.{ℕ, _+_, _-_, _*_, _≤_, _<_}
-use native.Mathlib.Nat.{mul-le-mul, le-trans}
+use native.Mathlib.Nat.{le-trans}
 use native.Mathlib.Omega.{arith}
 use lib.ListN.{length, getD, take, drop, List·getD-append}
 use lib.Seq.{length-take-le, length-front, take-at, drop-at, ext-getD, getD-drop, getD-append-add}
@@ -12,16 +12,13 @@ use Rattle.gates.specs.Valid.{Valid}
 use Rattle.params.specs.declared.Params.{Params}
 use Rattle.season_file.specs.File.{bytesOf}
 use Rattle.season_file.specs.declared.Span.{Span}
-use Rattle.kernels.specs.Blocks.{over}
-use Rattle.kernels.proofs.Laws.{over-length, over-at, over-past}
-
--- n blocks of b bytes, with n and b as large as they may be
-pub small-area : (n b : ℕ) → n ≤ 32 → b ≤ 1024 → n * b ≤ 32768
-small-area n b h k = mul-le-mul h k
+use Rattle.gates.proofs.Valid.{blocks-most}
+use Rattle.blocks.specs.Bytes.{over}
+use Rattle.blocks.proofs.Laws.{over-length, over-at, over-past}
 
 -- a record of valid parameters fits, and so does a message
 pub blocks-room : (a : Params) (x : ℕ) → Valid a → x ≤ a .n → x * a .b ≤ 32768
-blocks-room a x v h = small-area x (a .b) (le-trans h (v .shape .n-high)) (v .b-high)
+blocks-room a x v h = blocks-most x (a .b) (le-trans h (v .shape .n-high)) (v .b-high)
 
 module _ (m : ℕ) (buffer new : List ℕ) (fits : m ≤ length buffer) (full : length new ≡ m) where
   pub front-take : take m (new ++ drop m buffer) ≡ new

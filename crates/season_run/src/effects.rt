@@ -1,7 +1,7 @@
 // What an event does to the record, which stands at the front of a buffer of 32,768 bytes: a call of the code, or damage.
 use access::decode;
+use blocks::copy_block;
 use gates::check_gate;
-use kernels::copy_block;
 use maintenance::reconfigure;
 use maintenance::repair;
 use params::Params;

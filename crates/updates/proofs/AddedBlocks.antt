@@ -16,8 +16,8 @@ use Rattle.gates.specs.Valid.{UpdateAccepted, DeltaAccepted}
 use Rattle.params.specs.declared.Params.{Params}
 use Rattle.params.proofs.Sets.{rank-lt, node-at-rank, size-count, entry, distinct, within-has}
 use Rattle.code.specs.Calls.{Differences, Updated}
-use Rattle.kernels.specs.Blocks.{plus}
-use Rattle.kernels.proofs.Laws.{plus-length, plus-at}
+use Rattle.blocks.specs.Bytes.{plus}
+use Rattle.blocks.proofs.Laws.{plus-length, plus-at}
 use Rattle.coefficients.specs.Coefficients.{listed}
 use Rattle.coefficients.proofs.Laws.{length-listed, Lists, front-is}
 use Rattle.updates.specs.Adding.{Spread, Addable}

@@ -1,11 +1,11 @@
 // Document 01's difference and change: what a change of the message adds to the blocks of the nodes that it writes, so that the others keep theirs. Each is its
 // gate, and then a private core: a small matrix of coefficients is found once and applied to blocks by one product.
 use base::wide;
+use blocks::add_block;
 use coefficients::completion_rows;
 use coefficients::in_order;
 use gates::delta_gate;
 use gates::update_gate;
-use kernels::add_block;
 use kernels::product;
 use params::NodeSet;
 use params::Params;

@@ -16,8 +16,8 @@ returns c =
       kept = λ ne. refl;
     }
 
-add-rows-requires : tie.Need-add-rows-requires
-add-rows-requires c κs = c .before .before .fits2 .ensures .holds (not-false _ (c .before .if1 .left))
+add-fitting-requires : tie.Need-add-fitting-requires
+add-fitting-requires c κs = c .before .before .fits2 .ensures .holds (not-false _ (c .before .if1 .left))
 
 same-length : tie.Need-same-length
 same-length c = search needs
@@ -27,4 +27,4 @@ returns-2 c = search needs
 
 pub add-product-spec : {M : Type 1} → statement M
 add-product-spec =
-    tie.close (tie.spec fits-requires returns add-rows-requires same-length returns-2)
+    tie.close (tie.spec fits-requires returns add-fitting-requires same-length returns-2)

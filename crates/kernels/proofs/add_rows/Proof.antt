@@ -5,7 +5,8 @@ use native.Mathlib.Omega.{arith}
 use borrow.Author.Needs.{needs}
 use lib.ListN.{length}
 use Rattle.base.proofs.Parts.{Blocked, blocked-none, row-ends}
-use Rattle.kernels.proofs.RowByRow.{rowAt, length-rowOf, part-inside, row-added, rows-added}
+use Rattle.kernels.proofs.RowByRow.{rowAt, part-inside, row-added, rows-added}
+use Rattle.kernels.proofs.Stretches.{length-stretch}
 use Rattle.kernels.proofs.add_rows.Statement.{statement}
 use Rattle.kernels.proofs.add_rows.Tie as tie
 
@@ -60,7 +61,7 @@ accumulate-requires : tie.Need-accumulate-requires Inv-loop μ-loop
 accumulate-requires c κs =
     let s = c .before .before .before .before .before .before .before .before in
     let l = c .before .before .before .loop in (
-      omega (arith, length-rowOf (s .args .stride) (length (now (s .args .places))) (l .i) (now (s .args .coeffs)) (row-end (c .before .before))),
+      omega (arith, length-stretch (l .i * s .args .stride) (length (now (s .args .places))) (now (s .args .coeffs)) (row-end (c .before .before))),
       part-inside (s .args .b) (l .i) _ (now (s .args .places)) (l .out) (omega (arith, out-end (c .before .before), l .inv .1 .same)) (s .pre .block),
     )
 

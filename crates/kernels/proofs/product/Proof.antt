@@ -21,8 +21,8 @@ returns c =
 clear-requires : tie.Need-clear-requires
 clear-requires c κs = search needs
 
-add-rows-requires : tie.Need-add-rows-requires
-add-rows-requires c κs =
+add-fitting-requires : tie.Need-add-fitting-requires
+add-fitting-requires c κs =
     cleared-fits _ _ _ _ _ _ (now (c .before .before .before .before .before .before .before .before .before .before .before .args .out)) _ (c .before .before .before .clear .ensures)
     (c .before .before .before .before .before .before .fits2 .ensures .holds (not-false _ (c .before .before .before .before .before .if1 .left)))
 
@@ -31,9 +31,9 @@ same-length c = search needs
 
 returns-2 : tie.Need-returns-2
 returns-2 c =
-    from-clear _ _ _ _ _ _ _ (c .before .before .before .before .before .before .before .before .before .fits2 .ensures .holds (not-false _ (c .before .before .before .before .before .before .before .before .if1 .left))) (c .before .before .before .before .before .before .clear .last .0) _ (c .before .before .before .before .before .before .clear .ensures) (c .before .before .add-rows .ensures)
+    from-clear _ _ _ _ _ _ _ (c .before .before .before .before .before .before .before .before .before .fits2 .ensures .holds (not-false _ (c .before .before .before .before .before .before .before .before .if1 .left))) (c .before .before .before .before .before .before .clear .last .0) _ (c .before .before .before .before .before .before .clear .ensures) (c .before .before .add-fitting .ensures)
 
 pub product-spec : {M : Type 1} → statement M
 product-spec =
     tie.close
-    (tie.spec fits-requires returns clear-requires add-rows-requires same-length returns-2)
+    (tie.spec fits-requires returns clear-requires add-fitting-requires same-length returns-2)

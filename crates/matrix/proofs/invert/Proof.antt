@@ -5,7 +5,8 @@ use borrow.Author.Tests.{le-leb, lt-leb, eq-eqb, ne-eqb}
 use borrow.Author.Needs.{needs}
 use Rattle.field.specs.Field.{Bytes}
 use Rattle.matrix.specs.Working.{Ended}
-use Rattle.matrix.proofs.Loading.{area, zeros}
+use Rattle.base.proofs.Seq.{zeros-at}
+use Rattle.matrix.proofs.Loading.{area}
 use Rattle.matrix.proofs.Laws.{Open}
 use Rattle.matrix.proofs.Bridge.{singular, dependent, inverted}
 use Rattle.matrix.proofs.Answers.{refused-side, refused-lengths, answered-inverse, answered-singular}
@@ -38,7 +39,7 @@ slice-aggregate-load : tie.Need-slice-aggregate-load
 slice-aggregate-load c = search needs
 
 load-requires : tie.Need-load-requires
-load-requires c κs = (search needs, search needs, zeros 2048)
+load-requires c κs = (search needs, search needs, zeros-at 2048)
 
 slice-aggregate-eliminate : tie.Need-slice-aggregate-eliminate
 slice-aggregate-eliminate c = search needs

@@ -11,7 +11,8 @@ use Rattle.params.specs.Nodes.{size}
 use Rattle.params.specs.Params.{working}
 use Rattle.maintenance.specs.Cores.{Searched}
 use Rattle.coefficients.proofs.Laws.{buffer-front, buffer-fits, buffer-count, size-most}
-use Rattle.maintenance.proofs.Served.{blocks-most, working-exact, check-asks, served}
+use Rattle.gates.proofs.Valid.{blocks-most}
+use Rattle.maintenance.proofs.Served.{working-exact, check-asks, served}
 use Rattle.maintenance.proofs.checking.check_within.Statement.{statement}
 use Rattle.maintenance.proofs.checking.check_within.Tie as tie
 

@@ -10,7 +10,7 @@ use lib.Seq.{length-take-le}
 use Rattle.params.specs.Nodes.{size}
 use Rattle.maintenance.specs.Cores.{Extended, Put}
 use Rattle.coefficients.proofs.Laws.{buffer-front, buffer-fits, buffer-count, size-most, length-in-order, first-length, first-at}
-use Rattle.maintenance.proofs.Served.{blocks-most}
+use Rattle.gates.proofs.Valid.{blocks-most}
 use Rattle.maintenance.proofs.Rearranged.{free-asks, made-asks, made-listing, rearranged}
 use Rattle.maintenance.proofs.reconfiguring.rearrange_within.Statement.{statement}
 use Rattle.maintenance.proofs.reconfiguring.rearrange_within.Tie as tie

@@ -6,10 +6,9 @@ use borrow.Author.Needs.{needs}
 use denote.Ref.{now}
 use lib.ListN.{length}
 use Rattle.gates.specs.Valid.{RepairAccepted}
-use Rattle.gates.proofs.Valid.{repair-accepted}
+use Rattle.gates.proofs.Valid.{repair-accepted, blocks-most}
 use Rattle.coefficients.proofs.Laws.{size-most}
 use Rattle.code.proofs.Posts.{served, refused}
-use Rattle.maintenance.proofs.Served.{blocks-most}
 use Rattle.maintenance.proofs.repairing.repair.Statement.{statement}
 use Rattle.maintenance.proofs.repairing.repair.Tie as tie
 

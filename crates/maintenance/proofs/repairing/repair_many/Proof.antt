@@ -2,7 +2,7 @@
 use native.Mathlib.Omega.{arith}
 use borrow.Author.Needs.{needs}
 use Rattle.coefficients.proofs.Laws.{size-most}
-use Rattle.maintenance.proofs.Served.{blocks-most}
+use Rattle.gates.proofs.Valid.{blocks-most}
 use Rattle.maintenance.proofs.repairing.repair_many.Statement.{statement}
 use Rattle.maintenance.proofs.repairing.repair_many.Tie as tie
 

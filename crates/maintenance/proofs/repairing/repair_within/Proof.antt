@@ -10,7 +10,8 @@ use lib.Seq.{length-take-le}
 use Rattle.params.specs.Nodes.{size}
 use Rattle.maintenance.specs.Cores.{Put}
 use Rattle.coefficients.proofs.Laws.{buffer-front, buffer-fits, buffer-count, size-most}
-use Rattle.maintenance.proofs.Served.{blocks-most, repair-asks, repaired}
+use Rattle.gates.proofs.Valid.{blocks-most}
+use Rattle.maintenance.proofs.Served.{repair-asks, repaired}
 use Rattle.maintenance.proofs.repairing.repair_within.Statement.{statement}
 use Rattle.maintenance.proofs.repairing.repair_within.Tie as tie
 

@@ -2,8 +2,7 @@
 use mathlib.Core.Logic.{inl, inr}
 use mathlib.Core.Path.{refl, sym, _∙_}
 use native.Mathlib.Omega.{arith}
-use Rattle.gates.proofs.Valid.{check-accepted}
-use Rattle.season_run.proofs.Fronts.{small-area}
+use Rattle.gates.proofs.Valid.{check-accepted, blocks-most}
 use borrow.Author.Needs.{needs}
 use Rattle.season_run.proofs.effects.record_length.Statement.{statement}
 use Rattle.season_run.proofs.effects.record_length.Tie as tie
@@ -16,7 +15,7 @@ returns-2 c = inr (λ v. omega (arith, v .b-high), refl)
 
 mul-length : tie.Need-mul-length
 mul-length c =
-    let a = c .before .before .before .before .before .args .a in omega (arith, small-area (a .n) (a .b) (omega arith) (omega arith))
+    let a = c .before .before .before .before .before .args .a in omega (arith, blocks-most (a .n) (a .b) (omega arith) (omega arith))
 
 check-gate-requires : tie.Need-check-gate-requires
 check-gate-requires c κs = search needs

@@ -7,8 +7,8 @@ use lib.ListN.{length}
 use Rattle.maintenance.specs.Cores.{Listing}
 use Rattle.coefficients.proofs.Laws.{size-most}
 use Rattle.maintenance.proofs.Placing.{Listed, node-low, fresh-held, block-held, Putting, putting-none, putting-all, put-turn}
-use Rattle.maintenance.proofs.blocks.put_blocks.Statement.{statement}
-use Rattle.maintenance.proofs.blocks.put_blocks.Tie as tie
+use Rattle.maintenance.proofs.putting.put_blocks.Statement.{statement}
+use Rattle.maintenance.proofs.putting.put_blocks.Tie as tie
 
 abbrev Inv-loop : tie.InvT-loop
 Inv-loop codeword₀ fresh b count nodes i₀ codeword i =

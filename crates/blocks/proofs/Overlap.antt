@@ -11,7 +11,7 @@ use Rattle.base.proofs.Filled.{Filled}
 use Rattle.base.proofs.Seq.{eq-tabulate}
 use Rattle.field.specs.Field.{add}
 use Rattle.field.proofs.Addition.{add-zero-right}
-use Rattle.kernels.specs.Blocks.{plus, over}
+use Rattle.blocks.specs.Bytes.{plus, over}
 
 filled-front : (f : ℕ → ℕ) (t : ℕ) (old new : List ℕ) → ((q : ℕ) → t ≤ q → q < length old → getD old q 0 ≡ f q) → Filled f t old new
     → new ≡ tabulate (length old) f

@@ -1,6 +1,6 @@
 // The blocks of a set's nodes.
 use base::wide;
-use kernels::copy_block;
+use blocks::copy_block;
 use params::NodeSet;
 ghost use lib.ListN.{length};
 ghost use Rattle.maintenance.specs.Cores.{Listing, Put};

@@ -7,9 +7,9 @@ use lib.Bits.{bitXor}
 use lib.ListN.{getD}
 use Rattle.base.proofs.Filled.{Filled, filled-none, filled-more}
 use Rattle.field.specs.Field.{add}
-use Rattle.kernels.proofs.Overlap.{filled-plus}
-use Rattle.kernels.proofs.add_block.Statement.{statement}
-use Rattle.kernels.proofs.add_block.Tie as tie
+use Rattle.blocks.proofs.Overlap.{filled-plus}
+use Rattle.blocks.proofs.add_block.Statement.{statement}
+use Rattle.blocks.proofs.add_block.Tie as tie
 
 abbrev Inv-loop : tie.InvT-loop
 Inv-loop dst₀ src count p₀ dst p = (p ≤ count) × Filled (λ q. add (getD dst₀ q 0) (getD src q 0)) p dst₀ dst

@@ -5,10 +5,10 @@ use native.Mathlib.Omega.{arith}
 use borrow.Author.Needs.{needs}
 use lib.ListN.{getD}
 use Rattle.base.proofs.Filled.{Filled, filled-none, filled-more}
-use Rattle.kernels.proofs.Laws.{getD-default}
-use Rattle.kernels.proofs.Overlap.{filled-over}
-use Rattle.kernels.proofs.copy_block.Statement.{statement}
-use Rattle.kernels.proofs.copy_block.Tie as tie
+use Rattle.blocks.proofs.Laws.{getD-default}
+use Rattle.blocks.proofs.Overlap.{filled-over}
+use Rattle.blocks.proofs.copy_block.Statement.{statement}
+use Rattle.blocks.proofs.copy_block.Tie as tie
 
 abbrev Inv-loop : tie.InvT-loop
 Inv-loop dst₀ src size p₀ dst p = (p ≤ size) × Filled (λ q. getD src q (getD dst₀ q 0)) p dst₀ dst

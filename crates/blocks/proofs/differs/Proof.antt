@@ -8,8 +8,8 @@ use borrow.Author.Needs.{needs}
 use borrow.Author.Count.{below-more}
 use lib.ListN.{length, getD}
 use lib.Seq.{ext-getD}
-use Rattle.kernels.proofs.differs.Statement.{statement}
-use Rattle.kernels.proofs.differs.Tie as tie
+use Rattle.blocks.proofs.differs.Statement.{statement}
+use Rattle.blocks.proofs.differs.Tie as tie
 
 abbrev Inv-loop : tie.InvT-loop
 Inv-loop x y count p₀ p = (p ≤ length x) × ((k : ℕ) → k < p → getD x k 0 ≡ getD y k 0)
