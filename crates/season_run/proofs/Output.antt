@@ -6,9 +6,10 @@ use mathlib.Core.Bool.{false}
 use mathlib.Core.List.{List, [], _++_}
 use Prim.Native.Nat.{ℕ, zero, suc, _*_}
 use native.Mathlib.Omega.{arith}
-use lib.ListN.{length, replicate, length-replicate}
+use lib.ListN.{length, take, replicate, length-replicate}
 use Rattle.base.proofs.Cases.{lt-or, eq-or}
 use Rattle.field.specs.Field.{Bytes}
+use Rattle.interpolation.proofs.Rows.{bytes-take}
 use Rattle.params.specs.Nodes.{has}
 use Rattle.gates.specs.Gates.{encodeGate, decodeGate}
 use Rattle.gates.proofs.Valid.{decode-accepted}
@@ -32,7 +33,7 @@ use Rattle.season_file.specs.declared.Item.{Item}
 use Rattle.season_file.specs.declared.Item.the-variants as item
 use Rattle.season_file.specs.declared.Opening.{Opening}
 use Rattle.season_file.specs.declared.Opening.the-variants as opening
-use Rattle.season_run.specs.Season.{listed, Prints, Tried, Place, Outcome, ended, on, Goes, over, leftover, faulty, tried, setUpAnswer, Opens, refused, opened, Runs, done, turn, Season, season}
+use Rattle.season_run.specs.Season.{listed, Prints, Tried, Place, Outcome, ended, on, Goes, over, leftover, faulty, tried, setUpAnswer, Opens, refused, opened, Runs, done, turn, Season, season, FileOutput}
 use Rattle.season_run.proofs.Events.{span-bytes, bytes-zeros, found-good, typed}
 
 -- ---- one message
@@ -230,3 +231,9 @@ module _ (input : List ℕ) (bytes : Bytes input) where
   -- .. and every input of bytes has one.
   pub output-exists : (output : List ℕ) × Season input output
   output-exists = let o = opens-exist in let r = outcome-runs (o .1) (o .2) in (_, season (o .2) (r .1))
+
+-- A file of any length has exactly one output.
+pub file-output : (file : List ℕ) → Bytes file
+    → (output : List ℕ) × FileOutput file output × ((other : List ℕ) → FileOutput file other → other ≡ output)
+file-output file bytes =
+    let o = output-exists (take 65535 file) (bytes-take 65535 file bytes) in (o .0, o .1, λ other h. output-unique h (o .1))

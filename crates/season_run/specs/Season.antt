@@ -108,9 +108,13 @@ pub data Runs (input : List ℕ) : Outcome → List ℕ → Type 0 where
   turn : {here : Place} {outcome : Outcome} {line rest : List ℕ} → Goes input here line outcome → Runs input outcome rest
       → Runs input (on here) (line ++ rest)
 
--- The output for an input (of which the program reads at most 65,535 bytes).
+-- The output for an input.
 pub data Season (input : List ℕ) : List ℕ → Type 0 where
   season : {outcome : Outcome} {line rest : List ℕ} → Opens input line outcome → Runs input outcome rest → Season input (line ++ rest)
+
+-- "season" reads standard input, "at most 65,535 bytes (later bytes are not read)": the output for a whole file.
+abbrev pub FileOutput : List ℕ → List ℕ → Type 0
+FileOutput file output = Season (take 65535 file) output
 
 -- ---- the contracts of the two functions
 
