@@ -107,13 +107,14 @@ pub fn double(x: u8) -> u8
     ((x % 128) * 2) ^ ((x / 128) * 29)
 }
 
-// c·x by eight steps of doubling and adding, with no branch and no table: for loops over bytes that share the factor c.
+// c·x by eight steps of doubling and adding, with no branch and no table: for loops over bytes that share the factor c. The steps go by the bits of x, so that
+// the multiples of c are the same for all bytes of such a loop and nothing in it depends on the bits of c.
 pub fn times(c: u8, x: u8) -> u8
     ensures { λ r. ⌜ r ≡ mul c x ⌝ }
 {
     let mut sum = 0;
-    let mut multiple = x;
-    let mut rest = c;
+    let mut multiple = c;
+    let mut rest = x;
     for i in 0..8usize {
         sum = sum ^ (multiple * (rest % 2));
         multiple = double(multiple);

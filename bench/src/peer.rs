@@ -1,0 +1,332 @@
+//! The calls as a program over another implementation of the field makes them:
+//! powers one by one, a general inverse, products of small matrices entry by
+//! entry, and then one product with blocks. Room is kept from call to call.
+
+use crate::buffer::Buffer;
+use crate::coder::Coder;
+use jirvents::Params;
+use std::ops::BitXorAssign;
+use std::ptr;
+
+/// What another implementation brings.
+pub trait Peer {
+    /// An entry of a matrix.
+    type Symbol: Copy + Default + From<u8> + BitXorAssign + TryInto<u8>;
+
+    fn multiply(&self, x: Self::Symbol, y: Self::Symbol) -> Self::Symbol;
+
+    /// Writes the inverse of a matrix, which need not keep its entries.
+    fn invert(&mut self, side: usize, matrix: &mut [Self::Symbol], out: &mut [Self::Symbol]);
+
+    /// Each target becomes its row of coefficients times the sources.
+    ///
+    /// # Safety
+    /// All point at blocks of `b` bytes, and no target is another or a source.
+    unsafe fn write(
+        &mut self,
+        b: usize,
+        coeffs: &[Self::Symbol],
+        sources: &[*const u8],
+        targets: &[*mut u8],
+    );
+
+    /// To each target its row of coefficients times the sources is added.
+    ///
+    /// # Safety
+    /// All point at blocks of `b` bytes, and no target is another or a source.
+    unsafe fn add(
+        &mut self,
+        b: usize,
+        coeffs: &[Self::Symbol],
+        sources: &[*const u8],
+        targets: &[*mut u8],
+    );
+}
+
+type Matrix<S> = [S; 1024];
+
+/// The calls over a peer.
+pub struct Calls<P: Peer> {
+    peer: P,
+    known: Matrix<P::Symbol>,
+    wanted: Matrix<P::Symbol>,
+    square: Matrix<P::Symbol>,
+    inverse: Matrix<P::Symbol>,
+    share: Matrix<P::Symbol>,
+    coeffs: Matrix<P::Symbol>,
+    sources: [*const u8; 32],
+    targets: [*mut u8; 32],
+    values: Buffer,
+}
+
+/// The nodes of a set, counted from 1.
+fn nodes(mut set: u32) -> impl Iterator<Item = u8> {
+    std::iter::from_fn(move || {
+        let node = (set != 0).then(|| set.trailing_zeros() as u8 + 1)?;
+        set &= set - 1;
+        Some(node)
+    })
+}
+
+/// The nodes 1 to n outside a set.
+fn outside(set: u32, n: usize) -> u32 {
+    !set & u32::MAX >> (32 - n)
+}
+
+/// Where the block of a node starts.
+fn start(node: u8, b: usize) -> usize {
+    (usize::from(node) - 1) * b
+}
+
+/// Lists parts to read.
+fn list<'a>(parts: impl Iterator<Item = &'a [u8]>, sources: &mut [*const u8]) {
+    for (source, part) in sources.iter_mut().zip(parts) {
+        *source = part.as_ptr();
+    }
+}
+
+/// Lists the blocks of a set to read.
+fn list_blocks(codeword: *const [u8], set: u32, b: usize, sources: &mut [*const u8]) {
+    for (source, node) in sources.iter_mut().zip(nodes(set)) {
+        assert!(start(node, b) + b <= codeword.len());
+        *source = codeword.cast::<u8>().wrapping_add(start(node, b));
+    }
+}
+
+/// Lists the blocks of a set to write.
+fn list_blocks_mut(codeword: *mut [u8], set: u32, b: usize, targets: &mut [*mut u8]) {
+    for (target, node) in targets.iter_mut().zip(nodes(set)) {
+        assert!(start(node, b) + b <= codeword.len());
+        *target = codeword.cast::<u8>().wrapping_add(start(node, b));
+    }
+}
+
+/// A row for each node of the set: the powers 1 to `count` of its point.
+fn powers<P: Peer>(peer: &P, set: u32, count: usize, out: &mut [P::Symbol]) {
+    for (row, node) in out.chunks_exact_mut(count).zip(nodes(set)) {
+        let point = P::Symbol::from(node);
+        let mut power = point;
+        row[0] = power;
+        for entry in &mut row[1..] {
+            power = peer.multiply(power, point);
+            *entry = power;
+        }
+    }
+}
+
+/// Columns of a matrix.
+struct Columns<'a, S> {
+    entries: &'a [S],
+    stride: usize,
+    from: usize,
+    width: usize,
+}
+
+impl<'a, S> Columns<'a, S> {
+    fn row(&self, i: usize) -> &'a [S] {
+        let start = i * self.stride + self.from;
+        &self.entries[start..start + self.width]
+    }
+}
+
+/// Some columns of a matrix whose rows have this stride.
+fn columns<S>(entries: &[S], stride: usize, from: usize, width: usize) -> Columns<'_, S> {
+    Columns {
+        entries,
+        stride,
+        from,
+        width,
+    }
+}
+
+/// All columns.
+fn whole<S>(entries: &[S], width: usize) -> Columns<'_, S> {
+    columns(entries, width, 0, width)
+}
+
+/// Adds x·y to `out`, whose rows have a stride of their own.
+fn add_product<P: Peer>(
+    peer: &P,
+    rows: usize,
+    x: Columns<P::Symbol>,
+    y: Columns<P::Symbol>,
+    out: &mut [P::Symbol],
+    stride: usize,
+) {
+    for i in 0..rows {
+        let sums = &mut out[i * stride..i * stride + y.width];
+        for (j, &c) in x.row(i).iter().enumerate() {
+            for (sum, &entry) in sums.iter_mut().zip(y.row(j)) {
+                *sum ^= peer.multiply(c, entry);
+            }
+        }
+    }
+}
+
+impl<P: Peer> Calls<P> {
+    pub fn new(peer: P) -> Self {
+        let empty = [P::Symbol::default(); 1024];
+        Calls {
+            peer,
+            known: empty,
+            wanted: empty,
+            square: empty,
+            inverse: empty,
+            share: empty,
+            coeffs: empty,
+            sources: [ptr::null(); 32],
+            targets: [ptr::null_mut(); 32],
+            values: Buffer::new(&[0; 32768]),
+        }
+    }
+
+    /// The inverse of the powers 1 to r of the points of r nodes.
+    fn invert_powers(&mut self, set: u32, r: usize) {
+        let square = &mut self.square[..r * r];
+        powers(&self.peer, set, r, square);
+        self.peer.invert(r, square, &mut self.inverse[..r * r]);
+    }
+
+    /// What takes the blocks of `from` to those of `to`: rows of r coefficients.
+    fn carry(&mut self, r: usize, from: u32, to: u32) -> usize {
+        self.invert_powers(from, r);
+        let count = to.count_ones() as usize;
+        let wanted = &mut self.wanted[..count * r];
+        powers(&self.peer, to, r, wanted);
+        let coeffs = &mut self.coeffs[..count * r];
+        coeffs.fill(P::Symbol::default());
+        let (x, y) = (whole(wanted, r), whole(&self.inverse, r));
+        add_product(&self.peer, count, x, y, coeffs, r);
+        count
+    }
+
+    /// The powers of the points of the l nodes outside `to` and of the w in it,
+    /// and the inverse of the slack's columns of the former.
+    fn complete(&mut self, p: Params, to: u32) {
+        let Params { k, r, w, n, .. } = p;
+        let l = r - k;
+        powers(&self.peer, outside(to, n), r, &mut self.known[..l * r]);
+        powers(&self.peer, to, r, &mut self.wanted[..w * r]);
+        for (i, row) in self.square[..l * l].chunks_exact_mut(l).enumerate() {
+            row.copy_from_slice(&self.known[i * r + k..][..l]);
+        }
+        let square = &mut self.square[..l * l];
+        self.peer.invert(l, square, &mut self.inverse[..l * l]);
+    }
+}
+
+impl<P: Peer> Coder for Calls<P> {
+    fn encode(&mut self, p: Params, message: &[u8], slack: &[u8], codeword: &mut [u8]) {
+        let Params { r, n, b, .. } = p;
+        let all = outside(0, n);
+        powers(&self.peer, all, r, &mut self.coeffs[..n * r]);
+        let parts = message.chunks_exact(b).chain(slack.chunks_exact(b));
+        list(parts, &mut self.sources);
+        list_blocks_mut(codeword, all, b, &mut self.targets);
+        let (coeffs, sources) = (&self.coeffs[..n * r], &self.sources[..r]);
+        // SAFETY: parts of the message and the slack, and the codeword's blocks.
+        unsafe { self.peer.write(b, coeffs, sources, &self.targets[..n]) }
+    }
+
+    fn decode(&mut self, p: Params, codeword: &[u8], from: u32, out: &mut [u8]) {
+        let Params { k, r, b, .. } = p;
+        self.invert_powers(from, r);
+        list_blocks(codeword, from, b, &mut self.sources);
+        list_blocks_mut(out, outside(0, k), b, &mut self.targets);
+        let (coeffs, sources) = (&self.inverse[..k * r], &self.sources[..r]);
+        // SAFETY: the codeword's blocks and the message's parts.
+        unsafe { self.peer.write(b, coeffs, sources, &self.targets[..k]) }
+    }
+
+    fn update(&mut self, p: Params, codeword: &mut [u8], change: &[u8], to: u32) {
+        let Params { k, r, w, b, .. } = p;
+        let l = r - k;
+        self.complete(p, to);
+        // The slack that makes the blocks outside vanish, then the blocks within.
+        let share = &mut self.share[..l * k];
+        share.fill(P::Symbol::default());
+        let (x, y) = (whole(&self.inverse, l), columns(&self.known, r, 0, k));
+        add_product(&self.peer, l, x, y, share, k);
+        for (i, row) in self.coeffs[..w * k].chunks_exact_mut(k).enumerate() {
+            row.copy_from_slice(&self.wanted[i * r..][..k]);
+        }
+        let (x, y) = (columns(&self.wanted, r, k, l), whole(&self.share, k));
+        add_product(&self.peer, w, x, y, &mut self.coeffs, k);
+
+        list(change.chunks_exact(b), &mut self.sources);
+        list_blocks_mut(codeword, to, b, &mut self.targets);
+        let (coeffs, sources) = (&self.coeffs[..w * k], &self.sources[..k]);
+        // SAFETY: the change's parts and the codeword's blocks.
+        unsafe { self.peer.add(b, coeffs, sources, &self.targets[..w]) }
+    }
+
+    fn repair(&mut self, p: Params, codeword: &mut [u8], from: u32, lost: u32) {
+        let Params { r, b, .. } = p;
+        let count = self.carry(r, from, lost);
+        let codeword: *mut [u8] = codeword;
+        list_blocks(codeword, from, b, &mut self.sources);
+        list_blocks_mut(codeword, lost, b, &mut self.targets);
+        let (coeffs, sources) = (&self.coeffs[..count * r], &self.sources[..r]);
+        // SAFETY: blocks of the codeword, `lost` being apart from `from`.
+        unsafe { self.peer.write(b, coeffs, sources, &self.targets[..count]) }
+    }
+
+    fn reconfigure(
+        &mut self,
+        p: Params,
+        codeword: &[u8],
+        from: u32,
+        to: u32,
+        message: &[u8],
+        out: &mut [u8],
+    ) {
+        let Params { k, r, w, n, b } = p;
+        let l = r - k;
+        // The old values outside `to`.
+        let free = outside(to, n);
+        self.carry(r, from, free);
+        list_blocks(codeword, from, b, &mut self.sources);
+        let values = self.values.bytes_mut();
+        list_blocks_mut(values, outside(0, l), b, &mut self.targets);
+        let (coeffs, sources) = (&self.coeffs[..l * r], &self.sources[..r]);
+        // SAFETY: the codeword's blocks and those of a buffer of its own.
+        unsafe { self.peer.write(b, coeffs, sources, &self.targets[..l]) }
+
+        // Columns for the new message, then for the old values.
+        self.complete(p, to);
+        let gains = &mut self.share[..w * l];
+        gains.fill(P::Symbol::default());
+        let (x, y) = (columns(&self.wanted, r, k, l), whole(&self.inverse, l));
+        add_product(&self.peer, w, x, y, gains, l);
+        for (i, row) in self.coeffs[..w * r].chunks_exact_mut(r).enumerate() {
+            row[..k].copy_from_slice(&self.wanted[i * r..][..k]);
+            row[k..].copy_from_slice(&gains[i * l..][..l]);
+        }
+        let (x, y) = (whole(&self.share, l), columns(&self.known, r, 0, k));
+        add_product(&self.peer, w, x, y, &mut self.coeffs, r);
+
+        let values = self.values.bytes()[..l * b].chunks_exact(b);
+        let parts = message.chunks_exact(b).chain(values);
+        list(parts, &mut self.sources);
+        list_blocks_mut(out, to, b, &mut self.targets);
+        let (coeffs, sources) = (&self.coeffs[..w * r], &self.sources[..r]);
+        // SAFETY: parts of the message, blocks of the buffer, blocks of `out`.
+        unsafe { self.peer.write(b, coeffs, sources, &self.targets[..w]) }
+        for node in nodes(free) {
+            let at = start(node, b);
+            out[at..at + b].copy_from_slice(&codeword[at..at + b]);
+        }
+    }
+
+    fn invert(&mut self, side: usize, matrix: &[u8], out: &mut [u8]) {
+        let square = &mut self.square[..side * side];
+        for (entry, &byte) in square.iter_mut().zip(matrix) {
+            *entry = byte.into();
+        }
+        let inverse = &mut self.inverse[..side * side];
+        self.peer.invert(side, square, inverse);
+        for (byte, &entry) in out.iter_mut().zip(&*inverse) {
+            *byte = entry.try_into().unwrap_or_default();
+        }
+    }
+}
