@@ -40,7 +40,7 @@ int main(void) {
     answer = jirvents_view(k, r, w, n, b, card, 3, 2, &start);
     expect("node 2's block begins at 1", answer == 0 && start == 1);
     answer = jirvents_view(k, r, w, n, b, card, 3, 4, &start);
-    expect("there is no node 4: 10", answer == 10 && start == 1);
+    expect("there is no node 4: 10", answer == JIRVENTS_BAD_NODE && start == 1);
 
     const uint8_t both[] = {0x01, 0x01};
     uint8_t next[3];
@@ -53,6 +53,6 @@ int main(void) {
     answer = jirvents_invert(1, two, 1, inverse, 1, &column);
     expect("the inverse of 02 is 8E", answer == 0 && inverse[0] == 0x8E);
     answer = jirvents_invert(2, singular, 4, inverse, 4, &column);
-    expect("00 01 / 00 01 has none: column 1", answer == 15 && column == 1);
+    expect("00 01 / 00 01 has none: column 1", answer == JIRVENTS_SINGULAR && column == 1);
     return failed;
 }

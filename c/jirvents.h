@@ -4,19 +4,13 @@
  * A code has k message parts, r nodes to read, w nodes to write and n nodes, with r + w = k + n, and b bytes in a block. A message is k parts of b bytes, a
  * slack r - k parts, a codeword n blocks, that of node 1 first. A node set is a number of 32 bits in which node i is worth 2^(i-1).
  *
- * Every number, set and length may be given. Each function puts its questions in their order and answers 0, or the number of the first whose answer is no; it
- * then writes nothing:
- *    1 is n from 1 to 32?                            9 are the lost nodes apart from those read?
- *    2 are r and w at most n?                       10 is the node from 1 to n?
- *    3 is k at least 1, at most r and at most w?    11 to 14 are 1 to 4 for the new parameters
- *    4 is r + w = k + n?                            15 has the matrix an inverse?
- *    5 is b from 1 to 1,024?                        16 is the matrix's side from 1 to 32?
- *    6 has each slice its exact length?
- *    7 does each node set name only nodes up to its n?
- *    8 has each node set its size?
+ * Every number, set and length may be given. Each function puts its questions, told at its declaration, and answers 0 (JIRVENTS_SERVED), or the number of the
+ * first whose answer is no; it then writes nothing. The questions are put in the order of the enum below, which is not that of the numbers: 1 to 5, 11 to 14,
+ * 16, 6, 7, 8, 9, 10, 15.
  *
  * A slice is a pointer and a length in bytes. Its pointer must be valid for that many bytes (and not null, also for length 0), and slices that are written must
- * not overlap others. No function allocates, keeps a pointer or has a state. */
+ * not overlap others. The pointers node, start and column must be valid, not null, and apart from every slice. No function allocates, keeps a pointer or has a
+ * state. */
 #ifndef JIRVENTS_H
 #define JIRVENTS_H
 
@@ -27,38 +21,59 @@
 extern "C" {
 #endif
 
-/* Writes the codeword (n*b bytes) of a message (k*b bytes) and a slack ((r-k)*b bytes), whatever the codeword's bytes were. Answers 0 to 6. */
+/* The answers, in the order in which the questions are put. */
+enum {
+    JIRVENTS_SERVED = 0,
+    JIRVENTS_BAD_N = 1,          /* is n from 1 to 32? */
+    JIRVENTS_BAD_R_W = 2,        /* are r and w at most n? */
+    JIRVENTS_BAD_K = 3,          /* is k at least 1, at most r and at most w? */
+    JIRVENTS_BAD_SUM = 4,        /* is r + w = k + n? */
+    JIRVENTS_BAD_B = 5,          /* is b from 1 to 1,024? */
+    JIRVENTS_BAD_NEW_N = 11,     /* 1 for the new parameters */
+    JIRVENTS_BAD_NEW_R_W = 12,   /* 2 for the new parameters */
+    JIRVENTS_BAD_NEW_K = 13,     /* 3 for the new parameters */
+    JIRVENTS_BAD_NEW_SUM = 14,   /* 4 for the new parameters */
+    JIRVENTS_BAD_SIDE = 16,      /* is the matrix's side from 1 to 32? */
+    JIRVENTS_BAD_LENGTH = 6,     /* has each slice its exact length? */
+    JIRVENTS_BAD_SET = 7,        /* does each node set name only nodes up to its n? */
+    JIRVENTS_BAD_SIZE = 8,       /* is the set to read of size r, and the set to write of size w (for reconfigure, the new w)? */
+    JIRVENTS_LOST_IS_READ = 9,   /* are the lost nodes apart from those read? */
+    JIRVENTS_BAD_NODE = 10,      /* is the node from 1 to n? */
+    JIRVENTS_SINGULAR = 15       /* has the matrix an inverse? */
+};
+
+/* Writes the codeword (n*b bytes) of a message (k*b bytes) and a slack ((r-k)*b bytes), whatever the codeword's bytes were. Questions 1 to 6. */
 uint32_t jirvents_encode(size_t k, size_t r, size_t w, size_t n, size_t b, const uint8_t *message, size_t message_len, const uint8_t *slack,
                          size_t slack_len, uint8_t *codeword, size_t codeword_len);
 
-/* Reads the message (k*b bytes, to out) from the blocks of the r nodes in from, whichever bytes they hold. Answers 0 to 8. */
+/* Reads the message (k*b bytes, to out) from the blocks of the r nodes in from, whichever bytes they hold. Questions 1 to 8. */
 uint32_t jirvents_decode(size_t k, size_t r, size_t w, size_t n, size_t b, const uint8_t *codeword, size_t codeword_len, uint32_t from, uint8_t *out,
                          size_t out_len);
 
-/* Writes what a change of the message (k*b bytes) adds to the blocks of the w nodes in to: w*b bytes, the nodes in rising order. Answers 0 to 8. */
+/* Writes what a change of the message (k*b bytes) adds to the blocks of the w nodes in to: w*b bytes, the nodes in rising order. Questions 1 to 8. */
 uint32_t jirvents_delta(size_t k, size_t r, size_t w, size_t n, size_t b, const uint8_t *change, size_t change_len, uint32_t to, uint8_t *out,
                         size_t out_len);
 
-/* Adds the same to the blocks of the w nodes in to. Every other byte stays. Answers 0 to 8. */
+/* Adds the same to the blocks of the w nodes in to. Every other byte stays. Questions 1 to 8. */
 uint32_t jirvents_update(size_t k, size_t r, size_t w, size_t n, size_t b, uint8_t *codeword, size_t codeword_len, const uint8_t *change,
                          size_t change_len, uint32_t to);
 
-/* Writes the blocks of the nodes in lost anew from those of the r nodes in from. lost may be empty. Answers 0 to 9. */
+/* Writes the blocks of the nodes in lost anew from those of the r nodes in from. lost may have any size, also none. Questions 1 to 9. */
 uint32_t jirvents_repair(size_t k, size_t r, size_t w, size_t n, size_t b, uint8_t *codeword, size_t codeword_len, uint32_t from, uint32_t lost);
 
 /* Writes the codeword (n2*b bytes, to out) of the new parameters k2, r2, w2, n2 with a new message (k2*b bytes): the blocks of the w2 nodes in to and of nodes
- * above n are new, the others are copied. The old codeword is read at the r nodes in from. Answers 0 to 8, 11 to 14. */
+ * above n are new, the others are copied. The old codeword is read at the r nodes in from. Questions 1 to 5, 11 to 14, 6, 7, 8. */
 uint32_t jirvents_reconfigure(size_t k, size_t r, size_t w, size_t n, size_t b, size_t k2, size_t r2, size_t w2, size_t n2, const uint8_t *codeword,
                               size_t codeword_len, uint32_t from, uint32_t to, const uint8_t *message, size_t message_len, uint8_t *out, size_t out_len);
 
-/* Whether all blocks come from the pair of nodes 1 to r: with answer 0 *node becomes 0, or the lowest node whose block differs. Answers 0 to 6. */
+/* Whether all blocks come from the pair of nodes 1 to r: with answer 0 *node becomes 0, or the lowest node whose block differs. Questions 1 to 6. */
 uint32_t jirvents_check(size_t k, size_t r, size_t w, size_t n, size_t b, const uint8_t *codeword, size_t codeword_len, uint8_t *node);
 
-/* Where a node's block stands: with answer 0 it is the b bytes from codeword + *start on. Answers 0 to 6, 10. */
+/* Where a node's block stands: with answer 0 it is the b bytes from codeword + *start on. Questions 1 to 6, 10. */
 uint32_t jirvents_view(size_t k, size_t r, size_t w, size_t n, size_t b, const uint8_t *codeword, size_t codeword_len, uint8_t node, size_t *start);
 
 /* Writes the inverse of a square matrix over the field, stored by rows, side*side bytes each. With answer 15 *column becomes a column, counted from 1, that is a
- * sum of multiples of the others. Answers 0, 6, 15, 16. */
+ * sum of multiples of the others. Questions 16, 6, 15. */
 uint32_t jirvents_invert(size_t side, const uint8_t *matrix, size_t matrix_len, uint8_t *out, size_t out_len, size_t *column);
 
 #ifdef __cplusplus

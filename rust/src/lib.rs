@@ -9,11 +9,11 @@
 //! A **message** is k parts of b bytes, a **slack** r - k parts, a **codeword**
 //! n blocks, that of node 1 first. A **node set** is a `u32` in which node i is
 //! worth 2^(i-1). Every number, set and length may be given: each call puts its
-//! questions ([`QUESTIONS`]) and is refused by the first that is answered no. A
-//! refused call writes nothing.
+//! questions, in the order of [`QUESTIONS`], and is refused by the first that is
+//! answered no. A refused call writes nothing.
 //!
 //! ```
-//! use jirvents::{decode, encode, repair, update, Params};
+//! use jirvents::{decode, encode, repair, update, view, Params};
 //!
 //! let p = Params { k: 1, r: 2, w: 2, n: 3, b: 1 };
 //! let mut codeword = [0; 3];
@@ -31,8 +31,8 @@
 //! repair(p, &mut codeword, 0b110, 0b001)?;
 //! assert_eq!(codeword, [0x00, 0x0C, 0x0C]);
 //!
-//! let refusal = decode(p, &codeword, 0b111, &mut message).unwrap_err();
-//! assert_eq!(refusal.to_string(), "question 8: has each node set its size?");
+//! let refusal = view(p, &codeword, 4).unwrap_err();
+//! assert_eq!(refusal.to_string(), "question 10: is the node from 1 to n?");
 //! # Ok::<(), jirvents::Refusal>(())
 //! ```
 
@@ -70,21 +70,22 @@ pub struct Shape {
     pub n: usize,
 }
 
-/// The questions that calls put, by number. 11 to 14 are 1 to 4 for the new
-/// parameters.
+/// The questions that calls put, in the order in which they are put, each with
+/// the number that answers for it. 11 to 14 are 1 to 4 for the new parameters
+/// and are put after 5.
 pub const QUESTIONS: [(u32, &str); 12] = [
     (1, "is n from 1 to 32?"),
     (2, "are r and w at most n?"),
     (3, "is k at least 1, at most r and at most w?"),
     (4, "is r + w = k + n?"),
     (5, "is b from 1 to 1,024?"),
+    (16, "is the matrix's side from 1 to 32?"),
     (6, "has each slice its exact length?"),
     (7, "does each node set name only nodes up to its n?"),
-    (8, "has each node set its size?"),
+    (8, "is the set to read of size r, and the set to write of size w (for reconfigure, the new w)?"),
     (9, "are the lost nodes apart from those read?"),
     (10, "is the node from 1 to n?"),
     (15, "has the matrix an inverse?"),
-    (16, "is the matrix's side from 1 to 32?"),
 ];
 
 /// A refused call: the number of the first question that was answered no.

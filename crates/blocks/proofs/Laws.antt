@@ -41,5 +41,3 @@ over-past xs ys p h k = getD-tabulate (length xs) _ p h ∙ List·getD-eq-defaul
 pub over-same : (xs ys : List ℕ) → length ys ≡ length xs → over xs ys ≡ ys
 unfolding over
 over-same xs ys e = sym (eq-tabulate (length xs) _ ys e (λ p h. getD-default ys p 0 _ (omega arith)))
-
--- ---- products

@@ -78,7 +78,12 @@ invert-refused s m old new column q answer e post =
 
 pub view-refused : (a : Params) (codeword : List ℕ) (i old answer : ℕ) → answer ≡ viewGate a (length codeword) i → (answer ≡ 0 → ⊥)
     → ViewGave a codeword i old answer old
-view-refused a codeword i old answer e ne = record { answers = e; served = λ z. absurd (ne z); refused = λ _. refl }
+view-refused a codeword i old answer e ne =
+    record {
+      answers = e;
+      gave = record { served = λ z. absurd (ne z); refused = λ _. refl };
+      part = λ z. absurd (ne z);
+    }
 
 pub view-served : (a : Params) (codeword : List ℕ) (i old answer : ℕ) → answer ≡ viewGate a (length codeword) i → answer ≡ 0
     → ViewGave a codeword i old 0 ((i - 1) * a .b)
@@ -86,8 +91,8 @@ view-served a codeword i old answer e z =
     let zero : 0 ≡ viewGate a (length codeword) i = sym z ∙ e in
     record {
       answers = zero;
-      served = λ _. record { number = refl; served = λ _. refl; refused = λ ne. absurd (ne (sym zero)) };
-      refused = λ ne. absurd (ne refl);
+      gave = record { served = λ _. refl; refused = λ ne. absurd (ne refl) };
+      part = λ _. record { number = refl; served = λ _. refl; refused = λ ne. absurd (ne (sym zero)) };
     }
 
 before-32 : (i : ℕ) → i ≤ 32 → i - 1 ≤ 32

@@ -1,1 +1,2 @@
 mod Gave
+mod Settled

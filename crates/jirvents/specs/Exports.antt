@@ -1,7 +1,7 @@
 -- The library's functions for C and Rust, on numbers and bytes: what they write beside the calls' own buffers. Assumes nothing.
 use mathlib.Core.Path.{_≡_}
 use mathlib.Core.List.{List}
-use Prim.Native.Nat.{ℕ}
+use Prim.Native.Nat.{ℕ, _-_, _*_}
 use lib.ListN.{length, take, drop}
 use Rattle.gates.specs.Gates.{viewGate}
 use Rattle.params.specs.declared.Params.{Params}
@@ -12,31 +12,34 @@ use Rattle.matrix.specs.declared.Inversion.{Inversion}
 use Rattle.code.specs.Calls.{CheckPost, ViewPost, number, nodeNumber}
 use Rattle.code.specs.declared.Verdict.{Verdict}
 
+-- "An arrangement is k, r, w, n, B", from its five numbers ..
 abbrev pub params : ℕ → ℕ → ℕ → ℕ → ℕ → Params
 params k r w n b = record { k = k; r = r; w = w; n = n; b = b }
 
+-- .. and the one to which a rearrangement goes, "k', r', w', n', same B", from its four
 abbrev pub shape : ℕ → ℕ → ℕ → ℕ → Shape
 shape k r w n = record { k = k; r = r; w = w; n = n }
 
--- a number that is written beside the answer: only where the call gives one
+-- a number that is written beside the answer, where the call is served: "A refusal writes nothing"
 pub record Gave (answer given old new : ℕ) : Type 0 where
   pub served : answer ≡ 0 → new ≡ given
   pub refused : (answer ≡ 0 → ⊥) → new ≡ old
 
--- check: the verdict's number, and where that is 0 its node, 0 if all blocks agree
+-- check, "Besides its gate number it gives a trap number": the verdict's two numbers
 pub record CheckGave (a : Params) (codeword : List ℕ) (old answer new : ℕ) : Type 0 where
   pub verdict : Verdict
   pub post : CheckPost a codeword verdict
   pub answers : answer ≡ number verdict
   pub gave : Gave answer (nodeNumber verdict) old new
 
--- view: where the block begins in the codeword
+-- view, "the part of the record that is trap i's block": where it begins, with i - 1 blocks before it, "trap 1's block first". The B bytes from there on are
+-- the part that the view returns.
 pub record ViewGave (a : Params) (codeword : List ℕ) (i old answer new : ℕ) : Type 0 where
   pub answers : answer ≡ viewGate a (length codeword) i
-  pub served : answer ≡ 0 → ViewPost a codeword i (take (a .b) (drop new codeword))
-  pub refused : (answer ≡ 0 → ⊥) → new ≡ old
+  pub gave : Gave answer ((i - 1) * a .b) old new
+  pub part : answer ≡ 0 → ViewPost a codeword i (take (a .b) (drop new codeword))
 
--- the inverse: with 15 the column
+-- the matrix inverse: "besides its number gives only .. the column of 15"
 pub record InvertGave (s : ℕ) (m oldOut newOut : List ℕ) (old answer new : ℕ) : Type 0 where
   pub inversion : Inversion
   pub post : InvertPost s m oldOut inversion newOut

@@ -7,7 +7,7 @@ use Rattle.params.specs.declared.Shape.{Shape}
 unfoldable pub slackParts : Params → ℕ
 slackParts a = a .n - a .w
 
--- The working number: how many nodes' blocks determine message and slack. It is r (proofs/Valid.antt).
+-- The working number: how many nodes' blocks determine message and slack. It is r (gates/proofs/Valid.antt).
 unfoldable pub working : Params → ℕ
 unfolding slackParts
 working a = a .k + slackParts a

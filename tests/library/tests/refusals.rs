@@ -4,6 +4,24 @@ use jirvents::{decode, encode, invert, reconfigure, repair, view};
 use jirvents::{InvertError, Params, Refusal, Shape, QUESTIONS};
 
 const README: &str = include_str!("../../../README.md");
+const HEADER: &str = include_str!("../../../c/jirvents.h");
+
+/// All questions in the order of document 01's list: those of the new
+/// parameters come after 5.
+fn questions() -> Vec<(u32, String)> {
+    let own = |(number, words): &(u32, &str)| (*number, words.to_string());
+    let new = (1..=4).map(|n| (10 + n, format!("{n} for the new parameters")));
+    let (before, after) = QUESTIONS.split_at(5);
+    let before = before.iter().map(own);
+    before.chain(new).chain(after.iter().map(own)).collect()
+}
+
+#[test]
+fn the_order_is_document_01s() {
+    let numbers: Vec<_> = questions().into_iter().map(|row| row.0).collect();
+    let order = [1, 2, 3, 4, 5, 11, 12, 13, 14, 16, 6, 7, 8, 9, 10, 15];
+    assert_eq!(numbers, order);
+}
 
 /// The rows of the README's table of numbers and questions.
 fn rows() -> Vec<(&'static str, &'static str)> {
@@ -18,18 +36,35 @@ fn rows() -> Vec<(&'static str, &'static str)> {
     rows.map(cells).collect()
 }
 
+fn number(text: &str) -> u32 {
+    text.parse().expect("a number")
+}
+
 #[test]
 fn the_readme_has_the_same_words() {
     let mut rows = rows();
     let new = ("11 to 14", "1 to 4 for the new parameters");
-    let place = rows.iter().position(|row| *row == new);
-    rows.remove(place.expect("a row for 11 to 14"));
-    let number = |text: &str| text.parse::<u32>().expect("a number");
-    let rows: Vec<_> = rows
-        .into_iter()
-        .map(|(n, words)| (number(n), words))
-        .collect();
-    assert_eq!(rows, QUESTIONS);
+    assert_eq!(rows.remove(5), new);
+    let rows = rows.into_iter().map(|(n, words)| (number(n), words));
+    assert_eq!(rows.collect::<Vec<_>>(), QUESTIONS);
+}
+
+/// A refusal of the C header's enum: `NAME = number, /* words */`.
+fn enumerator(line: &str) -> (u32, String) {
+    let (left, comment) = line.split_once("/*").expect("words");
+    let (_, value) = left.split_once('=').expect("a value");
+    let words = comment.strip_suffix("*/").expect("the words' end");
+    let value = value.trim().trim_end_matches(',');
+    (number(value), words.trim().to_string())
+}
+
+#[test]
+fn the_c_header_has_the_same_words() {
+    let lines = HEADER.lines().map(str::trim);
+    let mut answers = lines.skip_while(|line| *line != "enum {").skip(1);
+    assert_eq!(answers.next(), Some("JIRVENTS_SERVED = 0,"));
+    let refusals = answers.take_while(|line| *line != "};").map(enumerator);
+    assert_eq!(refusals.collect::<Vec<_>>(), questions());
 }
 
 fn params(k: usize, r: usize, w: usize, n: usize, b: usize) -> Params {
@@ -72,7 +107,8 @@ fn each_refusal_tells_its_question() {
             11.. => (number - 10, " of the new parameters"),
             _ => (number, ""),
         };
-        let words = QUESTIONS[asked as usize - 1].1;
+        let row = QUESTIONS.iter().find(|row| row.0 == asked);
+        let words = row.expect("its question").1;
         let expected = format!("question {number}{of}: {words}");
         assert_eq!(refusal.to_string(), expected);
     }
