@@ -1,52 +1,77 @@
--- What `begin` and `turn` promise whatever they are given: the bytes written lie within the line, and fewer events are left. Assumes nothing.
-use mathlib.Core.Path.{_≡_, sym, ap, subst}
-use mathlib.Core.Logic.{⊎-elim}
+-- The program's calls one by one: the bytes to write lie within the line, each turn leaves fewer events, and what the calls gave to be written is the front of
+-- the output, and all of it at the end. Assumes nothing.
+use mathlib.Core.Path.{_≡_, ap, subst}
+use mathlib.Core.Bool.{true, false}
 use mathlib.Core.List.{List}
-use Prim.Native.Nat.{ℕ, suc, _≤_, _<_}
+use Prim.Native.Nat.{ℕ, _≤_, _<_}
 use native.Mathlib.Omega.{arith}
 use lib.ListN.{length, length-append}
-use Rattle.base.proofs.Cases.{lt-or}
+use Rattle.field.specs.Field.{Bytes}
 use Rattle.season_file.specs.Lines.{Wrote}
-use Rattle.season_run.specs.Season.{Place, on, Goes, tried, placeOf, outcomeOf, Idle, BeginPost, TurnPost}
+use Rattle.season_run.specs.Season.{Goes, placeOf, outcomeOf, Room, BeginPost, TurnPost}
+use Rattle.season_run.specs.Program.{Calls}
 use Rattle.season_run.specs.declared.State.{State}
 use Rattle.season_run.specs.declared.Next.{Next}
 use Rattle.season_run.specs.declared.Next.the-variants.{End, On}
 use Rattle.season_run.specs.declared.Turn.{Turn}
-use Rattle.season.specs.Loop.{Fewer, Shown}
-
--- an order that holds where P does, and where it does not
-either-way : {P : Type 0} (m n : ℕ) → (P → m ≤ n) → ((P → ⊥) → m ≤ n) → m ≤ n
-either-way m n f g = ⊎-elim (λ (lt : n < m). g (λ p. omega (arith, f p))) (λ le. le) (lt-or n m)
+use Rattle.season_run.proofs.Program.{goes-next, program-stands, program-prefix, program-output}
+use Rattle.season.specs.Loop.{Printed}
 
 wrote-within : (text old : List ℕ) (written : ℕ) (new : List ℕ) → Wrote text old written new → written ≤ length new
 wrote-within text old written new w = omega (arith, w .count, simp length-append at (ap length (w .bytes)))
 
-module _ (input buffer line : List ℕ) (t : Turn) (buffer′ line′ : List ℕ) where
-  idle-within : Idle buffer line t buffer′ line′ → t .written ≤ length line′
-  idle-within i = let z : t .written ≡ 0 = ap (λ (t : Turn). t .written) (i .ends) in omega arith
+-- how the run goes on, by another name
+pub onto : {input buffer line lines : List ℕ} {n n′ : Next} {buffer′ line′ : List ℕ} → n ≡ n′ → Calls input buffer line lines n buffer′ line′
+    → Calls input buffer line lines n′ buffer′ line′
+onto {input} {buffer} {line} {lines} {buffer′ = buffer′} {line′ = line′} e = subst (λ (n : Next). Calls input buffer line lines n buffer′ line′) e
 
-  pub begin-within : BeginPost input buffer line t buffer′ line′ → t .written ≤ length line′
-  begin-within post =
-      either-way _ _ (λ h. wrote-within _ line (t .written) line′ (post .served h .wrote)) (λ refused. idle-within (post .refused refused))
+-- whatever calls lead to one place, calls lead to another
+abbrev pub Onward : List ℕ → State → List ℕ → List ℕ → State → List ℕ → List ℕ → Type 0
+Onward input s buffer line s′ buffer′ line′ =
+    (first-buffer first-line lines : List ℕ) → Calls input first-buffer first-line lines (On s) buffer line
+    → (lines′ : List ℕ) × Calls input first-buffer first-line lines′ (On s′) buffer′ line′
 
-  pub turn-within : (s : State) → TurnPost input s buffer line t buffer′ line′ → t .written ≤ length line′
-  turn-within s post =
-      either-way _ _ (λ h. wrote-within _ line (t .written) line′ (post .served h .wrote)) (λ refused. idle-within (post .refused refused))
+module _ (input buffer line : List ℕ) (bytes : Bytes input) (room : Room buffer line) where
+  pub begin-within : (t : Turn) (buffer′ line′ : List ℕ) → BeginPost input buffer line t buffer′ line′ → t .written ≤ length line′
+  begin-within t buffer′ line′ post = let r = post .served room in wrote-within (r .text) line (t .written) line′ (r .wrote)
 
-goes-fewer : {input line : List ℕ} {here here′ : Place} → Goes input here line (on here′) → here′ .left < here .left
-goes-fewer (tried more f line h′ z i t) = omega arith
+  module _ (s : State) (lines buffer′ line′ : List ℕ) (calls : Calls input buffer line lines (On s) buffer′ line′) (t : Turn) (buffer″ line″ : List ℕ)
+      (post : TurnPost input s buffer′ line′ t buffer″ line″) where
+    pub turn-within : t .written ≤ length line″
+    turn-within = let r = post .served (program-stands input bytes room calls) in wrote-within (r .text) line′ (t .written) line″ (r .wrote)
 
-pub turn-fewer : (input buffer line : List ℕ) (s : State) (t : Turn) (buffer′ line′ : List ℕ) (n : Next) → TurnPost input s buffer line t buffer′ line′
-    → Shown t n → Fewer s n
-turn-fewer input buffer line s t buffer′ line′ End post shown = tt
-turn-fewer input buffer line s t buffer′ line′ (On s′) post shown =
-    ⊎-elim
-    (λ (e : On s′ ≡ t .next).
-    either-way (suc (s′ .left)) (s .left)
-    (λ h.
-    let r = post .served h in
-    goes-fewer {line = r .text} (subst (λ (n : Next). Goes input (placeOf s buffer) (r .text) (outcomeOf n buffer′)) (sym e) (r .result)))
-    (λ refused.
-    let i : t .next ≡ End = ap (λ (t : Turn). t .next) (post .refused refused .ends) in
-    let z : _≡_ {A = ℕ} 0 1 = cc in absurd (omega arith)))
-    (λ (e : On s′ ≡ End). let z : _≡_ {A = ℕ} 0 1 = cc in absurd (omega arith)) shown
+    pub turn-fewer : (s′ : State) → t .next ≡ On s′ → s′ .left < s .left
+    turn-fewer s′ e =
+        let r = post .served (program-stands input bytes room calls) in
+        let g = goes-next (subst (λ (n : Next). Goes input (placeOf s buffer′) (r .text) (outcomeOf n buffer″)) e (r .result)) in
+        omega (arith, g .1)
+
+  module _ (n : Next) (lines buffer′ line′ : List ℕ) (calls : Calls input buffer line lines n buffer′ line′) where
+    -- the run stops here, ..
+    pub stopped : Printed input buffer line false buffer′ line′
+    stopped =
+        record {
+          lines = lines;
+          next = n;
+          calls = calls;
+          front = program-prefix input bytes room calls;
+          all = λ e. let z : _≡_ {A = ℕ} 0 1 = cc in absurd (omega arith);
+        }
+
+    -- .. or ends here
+    pub finished : n ≡ End → Printed input buffer line true buffer′ line′
+    finished e =
+        record {
+          lines = lines;
+          next = n;
+          calls = calls;
+          front = program-prefix input bytes room calls;
+          all =
+              λ _.
+              program-output input bytes room
+              (record {
+                buffer-left = buffer′;
+                line-left = line′;
+                calls = onto e calls;
+              });
+        }

@@ -1,17 +1,17 @@
--- What the program's loop counts on. Assumes nothing.
+-- What the program's loop promises. Assumes nothing.
 use mathlib.Core.Path.{_≡_}
-use mathlib.Core.Logic.{_⊎_}
-use Prim.Native.Nat.{_<_}
-use Rattle.season_run.specs.declared.State.{State}
+use mathlib.Core.Bool.{Bool, true}
+use mathlib.Core.List.{List, _++_}
+use Prim.Native.Nat.{ℕ}
+use Rattle.season_run.specs.Season.{Season}
+use Rattle.season_run.specs.Program.{Calls}
 use Rattle.season_run.specs.declared.Next.{Next}
-use Rattle.season_run.specs.declared.Next.the-variants.{End, On}
-use Rattle.season_run.specs.declared.Turn.{Turn}
 
--- with each turn fewer events are left
-abbrev pub Fewer : State → Next → Type 0
-Fewer s End = Unit {0}
-Fewer s (On s′) = s′ .left < s .left
-
--- the run goes on as the turn says, or stops
-abbrev pub Shown : Turn → Next → Type 0
-Shown t r = (r ≡ t .next) ⊎ (r ≡ End)
+-- The program's calls were made one after the other in the buffers, and what they gave to be written is the front of the input's output; all of it, if every
+-- line was written.
+pub record Printed (input buffer line : List ℕ) (written : Bool) (buffer′ line′ : List ℕ) : Type 0 where
+  pub lines : List ℕ
+  pub next : Next
+  pub calls : Calls input buffer line lines next buffer′ line′
+  pub front : (rest : List ℕ) × Season input (lines ++ rest)
+  pub all : written ≡ true → Season input lines

@@ -3,13 +3,13 @@
 use libc::STDIN_FILENO;
 use libc::STDOUT_FILENO;
 use season_run::Next;
-use season_run::State;
 use season_run::Turn;
 use season_run::beginning::begin;
 use season_run::turning::turn;
 ghost use Prim.Native.Nat.{_≤_};
 ghost use lib.ListN.{length};
-ghost use Rattle.season.specs.Loop.{Fewer, Shown};
+ghost use Rattle.season_run.specs.Season.{Room};
+ghost use Rattle.season.specs.Loop.{Printed};
 
 // "At most 65,535 bytes (later bytes are not read)."
 fn main() {
@@ -25,39 +25,37 @@ fn run(input: &[u8]) {
     run_within(input, &mut codeword, &mut line);
 }
 
-fn run_within(input: &[u8], codeword: &mut [u8], line: &mut [u8]) {
-    let Next::On(first) = first_step(input, codeword, line) else {
-        return;
-    };
-    let mut s = first;
-    loop {
-        let Next::On(next) = step(input, s, codeword, line) else {
-            return;
-        };
-        s = next;
-    }
-}
-
-fn first_step(input: &[u8], codeword: &mut [u8], line: &mut [u8]) -> Next {
-    let t = begin(input, codeword, line);
-    show(t, line)
-}
-
-fn step(input: &[u8], s: State, codeword: &mut [u8], line: &mut [u8]) -> Next
-    ensures { λ r. ⌜ Fewer s r ⌝ }
+// Writes each turn's line until the run ends. The answer is whether all were written; after one that was not, it stops.
+fn run_within(input: &[u8], codeword: &mut [u8], line: &mut [u8]) -> bool
+    requires { ⌜ Room (now codeword) (now line) ⌝ }
+    ensures { λ r. ⌜ Printed (now (input .entry)) (now (codeword .entry)) (now (line .entry)) r (now (codeword .exit)) (now (line .exit)) ⌝ }
 {
-    let t = turn(input, s, codeword, line);
-    show(t, line)
+    let first = begin(input, codeword, line);
+    if !show(first, line) {
+        return false;
+    }
+    let opened = first.next;
+    let Next::On(state) = opened else {
+        return true;
+    };
+    let mut s = state;
+    loop {
+        let t = turn(input, s, codeword, line);
+        if !show(t, line) {
+            return false;
+        }
+        let next = t.next;
+        let Next::On(after) = next else {
+            return true;
+        };
+        s = after;
+    }
 }
 
 // Writes the turn's line.
-fn show(t: Turn, line: &[u8]) -> Next
+fn show(t: Turn, line: &[u8]) -> bool
     requires { ⌜ t .written ≤ length (now line) ⌝ }
-    ensures { λ r. ⌜ Shown t r ⌝ }
 {
     let written = t.written;
-    if !io::write_all(STDOUT_FILENO, &line[..written]) {
-        return Next::End;
-    }
-    t.next
+    io::write_all(STDOUT_FILENO, &line[..written])
 }

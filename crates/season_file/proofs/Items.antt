@@ -8,8 +8,8 @@ use lib.ListN.{length, getD}
 use borrow.Author.Tests.{lt-ltb, le-ltb}
 use Rattle.params.specs.declared.Params.{Params}
 use Rattle.params.specs.declared.NodeSet.{NodeSet}
-use Rattle.season_file.specs.File.{choiceAt, set, fixed, following, eventAt, endOf, itemAt}
-use Rattle.season_file.specs.Parsing.{held, unknown, faultOf, fieldsAt}
+use Rattle.season_file.specs.File.{choiceAt, set, fixed, following, eventAt, endOf, unknown, faultOf, fieldsAt, itemAt}
+use Rattle.season_file.specs.Parsing.{held}
 use Rattle.season_file.specs.declared.Event.{Event}
 use Rattle.season_file.specs.declared.Event.the-variants.{Update, Repair, Damage, Decode, Reconfigure}
 use Rattle.season_file.specs.declared.ReconfigureFields.{ReconfigureFields}

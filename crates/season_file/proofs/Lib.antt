@@ -7,4 +7,3 @@ mod Placing
 mod Backwards
 pub mod Decimal
 pub mod Hexadecimal
-pub mod Sample

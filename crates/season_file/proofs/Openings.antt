@@ -5,8 +5,7 @@ use Prim.Native.Nat.{ℕ, _+_, _≤_, _<_}
 use lib.ListN.{length}
 use borrow.Author.Tests.{lt-ltb, le-ltb, eq-eqb, ne-eqb}
 use Rattle.params.specs.declared.Params.{Params}
-use Rattle.season_file.specs.File.{numberAt, eventsCountAt, openingOf}
-use Rattle.season_file.specs.Parsing.{paramsOf}
+use Rattle.season_file.specs.File.{numberAt, paramsOf, eventsCountAt, openingOf}
 use Rattle.season_file.specs.declared.Opening.the-variants.{Faulty, Whole}
 
 module _ (input : List ℕ) where

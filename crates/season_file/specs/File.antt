@@ -38,9 +38,22 @@ set input at = record { 0 = choiceAt input at }
 -- ---- the sections before the events
 
 -- "Sections in order, each after its two-byte count: arrangement (count 5: k, r, w, n, B), message (count in bytes), slack (count in bytes), events."
+-- The arrangement, ..
+abbrev pub paramsOf : List ℕ → Params
+paramsOf input =
+    record {
+      k = numberAt input 2;
+      r = numberAt input 4;
+      w = numberAt input 6;
+      n = numberAt input 8;
+      b = numberAt input 10;
+    }
+
+-- .. where the slack's count stands, behind the message, ..
 abbrev pub slackCountAt : List ℕ → ℕ
 slackCountAt input = 14 + numberAt input 12
 
+-- .. and where the events' count stands, behind the slack
 abbrev pub eventsCountAt : List ℕ → ℕ
 eventsCountAt input = slackCountAt input + 2 + numberAt input (slackCountAt input)
 
@@ -53,14 +66,7 @@ openingOf input =
     (choose (ltb (length input) (eventsCountAt input + 2)) (opening.Faulty 21)
     (opening.Whole
     (record {
-      params =
-          record {
-            k = numberAt input 2;
-            r = numberAt input 4;
-            w = numberAt input 6;
-            n = numberAt input 8;
-            b = numberAt input 10;
-          };
+      params = paramsOf input;
       message = record { at = 14; count = numberAt input 12 };
       slack = record { at = slackCountAt input + 2; count = numberAt input (slackCountAt input) };
       events = numberAt input (eventsCountAt input);
@@ -117,17 +123,23 @@ kindOf (Reconfigure _) = 5
 abbrev pub endOf : Params → List ℕ → ℕ → ℕ → ℕ
 endOf a input at kind = at + fixed kind + following a input at kind
 
--- "All of an event's fields are read before it is tried." "21 bytes end early; 22 kind unknown", with "its kind (0 if unread)".
+-- "An event has a kind 1 to 5": any other is unknown
+abbrev pub unknown : ℕ → Bool
+unknown kind = eqb kind 0 || ltb 5 kind
+
+-- a fault: the kind that its line tells, and its number
+abbrev pub faultOf : ℕ → ℕ → Item
+faultOf kind number = item.Faulty (record { kind = kind; number = number })
+
+-- "All of an event's fields are read before it is tried." "21 bytes end early": what stands behind a known kind, whose fields begin at `at`
+unfoldable pub fieldsAt : Params → List ℕ → ℕ → ℕ → Item
+fieldsAt a input at kind =
+    choose (ltb (length input) (endOf a input at kind)) (faultOf kind 21)
+    (item.Whole (record { event = eventAt a input at kind; next = endOf a input at kind }))
+
+-- "22 kind unknown", with "its kind (0 if unread)".
 unfoldable pub itemAt : Params → List ℕ → ℕ → Item
+unfolding fieldsAt
 itemAt a input at =
     choose (ltb at (length input))
-    (choose (eqb (getD input at 0) 0 || ltb 5 (getD input at 0))
-    (item.Faulty (record { kind = getD input at 0; number = 22 }))
-    (choose (ltb (length input) (endOf a input (at + 1) (getD input at 0)))
-    (item.Faulty (record { kind = getD input at 0; number = 21 }))
-    (item.Whole
-    (record {
-      event = eventAt a input (at + 1) (getD input at 0);
-      next = endOf a input (at + 1) (getD input at 0);
-    }))))
-    (item.Faulty (record { kind = 0; number = 21 }))
+    (choose (unknown (getD input at 0)) (faultOf (getD input at 0) 22) (fieldsAt a input (at + 1) (getD input at 0))) (faultOf 0 21)

@@ -12,6 +12,7 @@ use super::RepairFields;
 use super::Span;
 use super::UpdateFields;
 use super::area;
+use base::wide;
 use params::Node;
 use params::NodeSet;
 use params::Params;
@@ -19,16 +20,10 @@ use params::Shape;
 ghost use mathlib.Core.Path.{_≡_};
 ghost use Prim.Native.Nat.{_+_, _≤_, _<_};
 ghost use lib.ListN.{length};
-ghost use Rattle.season_file.specs.File.{numberAt, choiceAt, openingOf, fixed, following, eventAt, itemAt, kindOf};
-ghost use Rattle.season_file.specs.Parsing.{held, paramsOf, faultOf, unknown, fieldsAt};
+ghost use Rattle.season_file.specs.File.{numberAt, choiceAt, paramsOf, openingOf, fixed, following, eventAt, kindOf, unknown, faultOf, fieldsAt, itemAt};
+ghost use Rattle.season_file.specs.Parsing.{held};
 ghost use Rattle.season_file.specs.declared.Event.the-variants.{Reconfigure};
 ghost use Rattle.params.specs.declared.Params.{Params};
-
-fn wide(x: u8) -> usize
-    ensures { λ r. ⌜ (r ≡ x) × (r < 256) ⌝ }
-{
-    x as usize
-}
 
 // A number of two bytes, highest byte first.
 fn number_at(input: &[u8], at: usize) -> usize

@@ -1,7 +1,7 @@
 -- What the file's definitions say of an event that was found: its blocks stand within the input, its bytes are bytes and its sets have 32 bits, and its answer is
 -- the number of the list's event. By cases on its kind. Assumes nothing.
 use mathlib.Core.Path.{_≡_, refl, _∙_, subst}
-use mathlib.Core.Bool.{Bool, true, false, _||_}
+use mathlib.Core.Bool.{Bool, true, false}
 use mathlib.Core.List.{List}
 use Prim.Native.Nat.{ℕ, _+_, _*_, _^_, _≤_, _<_}
 use native.Mathlib.Omega.{arith}
@@ -14,7 +14,7 @@ use Rattle.field.specs.Field.{Bytes}
 use Rattle.interpolation.proofs.Rows.{bytes-tabulate, bytes-take, bytes-drop}
 use Rattle.params.specs.declared.Params.{Params}
 use Rattle.ledger.specs.Ledger.{Held, Typed, gate}
-use Rattle.season_file.specs.File.{choose, numberAt, choiceAt, bytesOf, eventsCountAt, openingOf, eventAt, endOf, itemAt}
+use Rattle.season_file.specs.File.{choose, numberAt, choiceAt, bytesOf, eventsCountAt, openingOf, eventAt, endOf, unknown, itemAt}
 use Rattle.season_file.specs.Answers.{answerOf}
 use Rattle.season_file.specs.declared.Span.{Span}
 use Rattle.season_file.specs.declared.Event.{Event}
@@ -59,6 +59,13 @@ header-inside input hd e =
     let h : eventsCountAt input + 2 ≤ length input = ltb-false _ _ (w .0) in
     subst (λ (g : Header). (g .message .at + g .message .count ≤ length input) × (g .slack .at + g .slack .count ≤ length input)) (w .1)
     (omega arith, omega arith)
+
+-- the count of events has two bytes
+pub header-counted : (input : List ℕ) (hd : Header) → Bytes input → openingOf input ≡ opening.Whole hd → hd .events < 65536
+unfolding openingOf numberAt
+header-counted input hd bytes e =
+    let w = header-of (ltb (length input) 2) (eqb (numberAt input 0) 5) (ltb (length input) (eventsCountAt input + 2)) _ _ _ _ hd e in
+    subst (λ (g : Header). g .events < 65536) (w .1) (omega (arith, bytes (eventsCountAt input), bytes (eventsCountAt input + 1)))
 
 -- ---- an event that was found
 
@@ -111,7 +118,7 @@ unfolding itemAt
 found-good a input at f e =
     let kind : ℕ = getD input at 0 in
     let w =
-    whole-of (ltb at (length input)) (eqb kind 0 || ltb 5 kind) (ltb (length input) (endOf a input (at + 1) kind)) _ _ _ _ f e in
+    whole-of (ltb at (length input)) (unknown kind) (ltb (length input) (endOf a input (at + 1) kind)) _ _ _ _ f e in
     subst (λ (g : Found). Good a input (g .event)) (w .1) (event-good a input (at + 1) kind (ltb-false _ _ (w .0)))
 
 -- ---- the list's event

@@ -1,6 +1,7 @@
 pub mod Events
 pub mod Output
 pub mod LedgerRun
+pub mod Program
 pub mod Sample
 mod Fronts
 mod Applied

@@ -189,7 +189,7 @@ module _ (input : List ℕ) (bytes : Bytes input) where
   -- ---- there is an output
 
   -- from a whole state where n events are left
-  abbrev RunsWith : ℕ → Type 0
+  abbrev pub RunsWith : ℕ → Type 0
   RunsWith n = (here : Place) → here .left ≡ n → Whole (here .stands) → (rest : List ℕ) × Runs input (on here) rest
 
   runs-more : (n : ℕ) → RunsWith n → RunsWith (suc n)
@@ -206,12 +206,12 @@ module _ (input : List ℕ) (bytes : Bytes input) where
           let g = tried n f _ (s .0) z i (record { message = p .0; prints = p .1; line-is = refl; step = s .1 }) in
           (_, turn g (again _ refl (goes-whole w g) .1))
 
-  runs-exist : (n : ℕ) → RunsWith n
+  pub runs-exist : (n : ℕ) → RunsWith n
   runs-exist zero here z w =
       ⊎-elim (λ more. (_, turn (leftover z more) done)) (λ none. (_, turn (over z none) done)) (lt-or (here .at) (length input))
   runs-exist (suc n) here z w = runs-more n (runs-exist n) here z w
 
-  opens-exist : (line : List ℕ) × (outcome : Outcome) × Opens input line outcome
+  pub opens-exist : (line : List ℕ) × (outcome : Outcome) × Opens input line outcome
   opens-exist = go (openingOf input) refl
     where
       go : (i : Opening) → openingOf input ≡ i → (line : List ℕ) × (outcome : Outcome) × Opens input line outcome

@@ -1,3 +1,4 @@
 pub mod Season
 pub mod Ledgers
 pub mod Turning
+pub mod Program

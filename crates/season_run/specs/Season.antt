@@ -147,7 +147,7 @@ pub record Turned (Result : List ℕ → Outcome → Type 0) (buffer line : List
   pub length-is : length buffer′ ≡ length buffer
   pub rest : drop (recordEnd (t .next)) buffer′ ≡ drop (recordEnd (t .next)) buffer
 
--- nothing is done with buffers of other lengths, or from a state with parameters that no set-up accepts
+-- nothing is done with buffers of other lengths, or from a state with parameters that no set-up accepts or a number above 65,536
 pub record Idle (buffer line : List ℕ) (t : Turn) (buffer′ line′ : List ℕ) : Type 0 where
   pub ends : t ≡ record { written = 0; next = next.End }
   pub buffer-kept : buffer′ ≡ buffer

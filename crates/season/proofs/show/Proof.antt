@@ -1,6 +1,5 @@
 -- The bytes to write lie within the line. Assumes nothing.
-use mathlib.Core.Path.{refl, sym}
-use mathlib.Core.Logic.{inl, inr}
+use mathlib.Core.Path.{sym}
 use denote.Ref.{now}
 use lib.Seq.{length-take-le}
 use borrow.Author.Needs.{needs}
@@ -14,10 +13,7 @@ write-all-requires : tie.Need-write-all-requires
 write-all-requires c κs = search needs
 
 returns : tie.Need-returns
-returns c = inr refl
-
-returns-2 : tie.Need-returns-2
-returns-2 c = inl refl
+returns c = search needs
 
 pub show-spec : {M : Type 1} → statement M
-show-spec = tie.close (tie.spec slice-aggregate-write-all write-all-requires returns returns-2)
+show-spec = tie.close (tie.spec slice-aggregate-write-all write-all-requires returns)

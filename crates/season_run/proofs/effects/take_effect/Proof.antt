@@ -1,5 +1,5 @@
 -- A refused event leaves all as it was; each kind has its function. Assumes nothing.
-use mathlib.Core.Path.{sym, ap, _∙_, subst, subst⁻¹}
+use mathlib.Core.Path.{ap, subst, subst⁻¹}
 use native.Mathlib.Omega.{arith}
 use denote.Ref.{now}
 use mathlib.Core.List.{[]}
@@ -13,7 +13,7 @@ use Rattle.season_run.proofs.effects.take_effect.Statement.{statement}
 use Rattle.season_run.proofs.effects.take_effect.Tie as tie
 
 returns : tie.Need-returns
-returns c = let s = c .before .before .before .before in (refused-applied (s .args .a) (now (s .args .input)) (s .args .e) (now (s .args .codeword)) (s .pre .0) (λ z. c .if1 .taken (s .pre .1 .0 ∙ z)), omega arith)
+returns c = let s = c .before .before .before .before in (refused-applied (s .args .a) (now (s .args .input)) (s .args .e) (now (s .args .codeword)) (s .pre .0) (λ z. omega (arith, s .pre .1 .0, z, c .if1 .taken)), omega arith)
 
 enum-known-e : tie.Need-enum-known-e
 enum-known-e c = search needs
@@ -31,19 +31,19 @@ enum-known-e-3 : tie.Need-enum-known-e-3
 enum-known-e-3 c = search needs
 
 apply-damage-requires : tie.Need-apply-damage-requires
-apply-damage-requires c κs = let s = c .before .before .before .before .before .before .before .before in (subst (λ (e : Event). Ready (s .args .a) (now (s .args .input)) e (now (s .args .codeword))) (c .before .before .e3 .given .1) (s .pre .0), sym (s .pre .1 .0 ∙ ap (answerOf (s .args .a)) (c .before .before .e3 .given .1)) ∙ c .before .before .before .before .if1 .left)
+apply-damage-requires c κs = let s = c .before .before .before .before .before .before .before .before in (subst (λ (e : Event). Ready (s .args .a) (now (s .args .input)) e (now (s .args .codeword))) (c .before .before .e3 .given .1) (s .pre .0), omega (arith, s .pre .1 .0, ap (answerOf (s .args .a)) (c .before .before .e3 .given .1), c .before .before .before .before .if1 .left))
 
 enum-known-e-4 : tie.Need-enum-known-e-4
 enum-known-e-4 c = search needs
 
 apply-decode-requires : tie.Need-apply-decode-requires
-apply-decode-requires c κs = let s = c .before .before .before .before .before .before .before .before .before in (s .pre .0 .valid, ((s .pre .0 .room, s .pre .1 .1), sym (s .pre .1 .0 ∙ ap (answerOf (s .args .a)) (c .before .before .before .e4 .given .1)) ∙ c .before .before .before .before .before .if1 .left))
+apply-decode-requires c κs = let s = c .before .before .before .before .before .before .before .before .before in (s .pre .0 .valid, ((s .pre .0 .room, s .pre .1 .1), omega (arith, s .pre .1 .0, ap (answerOf (s .args .a)) (c .before .before .before .e4 .given .1), c .before .before .before .before .before .if1 .left)))
 
 enum-known-e-5 : tie.Need-enum-known-e-5
 enum-known-e-5 c = search needs
 
 apply-reconfigure-requires : tie.Need-apply-reconfigure-requires
-apply-reconfigure-requires c κs = let s = c .before .before .before .before .before .before .before .before .before in (subst (λ (e : Event). Ready (s .args .a) (now (s .args .input)) e (now (s .args .codeword))) (c .before .before .before .e5 .given .1) (s .pre .0), (s .pre .1 .1, sym (s .pre .1 .0 ∙ ap (answerOf (s .args .a)) (c .before .before .before .e5 .given .1)) ∙ c .before .before .before .before .before .if1 .left))
+apply-reconfigure-requires c κs = let s = c .before .before .before .before .before .before .before .before .before in (subst (λ (e : Event). Ready (s .args .a) (now (s .args .input)) e (now (s .args .codeword))) (c .before .before .before .e5 .given .1) (s .pre .0), (s .pre .1 .1, omega (arith, s .pre .1 .0, ap (answerOf (s .args .a)) (c .before .before .before .e5 .given .1), c .before .before .before .before .before .if1 .left)))
 
 same-length : tie.Need-same-length
 same-length c = search needs
