@@ -1,3 +1,4 @@
 mod ReadBack
 mod PowerBlocks
+mod Joined
 mod Viewed

@@ -1,14 +1,16 @@
-// Document 01's set-up.
+// Document 01's set-up. Message and slack are laid side by side, so that one product by the powers of the nodes' points gives all blocks.
+use blocks::copy_block;
 use coefficients::in_order;
 use coefficients::power_rows;
 use gates::encode_gate;
-use kernels::add_product;
 use kernels::product;
 use params::NodeSet;
 use params::Params;
 ghost use mathlib.Core.Path.{_≡_};
-ghost use lib.ListN.{length};
-ghost use Rattle.gates.specs.Valid.{EncodeAccepted};
+ghost use Prim.Native.Nat.{_+_, _*_, _≤_};
+ghost use lib.ListN.{length, take, drop};
+ghost use Rattle.params.specs.Params.{working};
+ghost use Rattle.gates.specs.Valid.{Valid, EncodeAccepted};
 ghost use Rattle.code.specs.Calls.{EncodePost, Encoded};
 
 // Writes the blocks of all nodes for a message and a slack, whatever the codeword's buffer held. A refusal leaves it as it was.
@@ -23,29 +25,84 @@ pub fn encode(a: Params, message: &[u8], slack: &[u8], codeword: &mut [u8]) -> u
     0
 }
 
+// An accepted call: makes room for message and slack side by side, no more than is wanted, since room is cleared at each call.
 fn encode_blocks(a: Params, message: &[u8], slack: &[u8], codeword: &mut [u8])
     requires { ⌜ EncodeAccepted a (length (now message)) (length (now slack)) (length (now codeword)) ⌝ }
     ensures { λ _. ⌜ Encoded a (now (message .entry)) (now (slack .entry)) (now (codeword .exit)) ⌝ }
 {
-    let mut rows = [0u8; 1024];
-    encode_within(a, message, slack, &mut rows, codeword);
+    let size = message.len() + slack.len();
+    if size <= 1024 {
+        encode_few(a, message, slack, codeword);
+        return;
+    }
+    if size <= 10240 {
+        encode_more(a, message, slack, codeword);
+        return;
+    }
+    encode_many(a, message, slack, codeword);
 }
 
-// The same, with room for the powers: a row for each node, the message's columns before the slack's.
-fn encode_within(a: Params, message: &[u8], slack: &[u8], rows: &mut [u8], codeword: &mut [u8])
+fn encode_few(a: Params, message: &[u8], slack: &[u8], codeword: &mut [u8])
     requires { ⌜ EncodeAccepted a (length (now message)) (length (now slack)) (length (now codeword)) ⌝ }
-    requires { ⌜ length (now rows) ≡ 1024 ⌝ }
+    requires { ⌜ length (now message) + length (now slack) ≤ 1024 ⌝ }
     ensures { λ _. ⌜ Encoded a (now (message .entry)) (now (slack .entry)) (now (codeword .exit)) ⌝ }
 {
+    let mut parts = [0u8; 1024];
+    encode_joined(a, message, slack, &mut parts, codeword);
+}
+
+fn encode_more(a: Params, message: &[u8], slack: &[u8], codeword: &mut [u8])
+    requires { ⌜ EncodeAccepted a (length (now message)) (length (now slack)) (length (now codeword)) ⌝ }
+    requires { ⌜ length (now message) + length (now slack) ≤ 10240 ⌝ }
+    ensures { λ _. ⌜ Encoded a (now (message .entry)) (now (slack .entry)) (now (codeword .exit)) ⌝ }
+{
+    let mut parts = [0u8; 10240];
+    encode_joined(a, message, slack, &mut parts, codeword);
+}
+
+fn encode_many(a: Params, message: &[u8], slack: &[u8], codeword: &mut [u8])
+    requires { ⌜ EncodeAccepted a (length (now message)) (length (now slack)) (length (now codeword)) ⌝ }
+    ensures { λ _. ⌜ Encoded a (now (message .entry)) (now (slack .entry)) (now (codeword .exit)) ⌝ }
+{
+    let mut parts = [0u8; 32768];
+    encode_joined(a, message, slack, &mut parts, codeword);
+}
+
+// The same, with room for message and slack.
+fn encode_joined(a: Params, message: &[u8], slack: &[u8], parts: &mut [u8], codeword: &mut [u8])
+    requires { ⌜ EncodeAccepted a (length (now message)) (length (now slack)) (length (now codeword)) ⌝ }
+    requires { ⌜ length (now message) + length (now slack) ≤ length (now parts) ⌝ }
+    ensures { λ _. ⌜ Encoded a (now (message .entry)) (now (slack .entry)) (now (codeword .exit)) ⌝ }
+{
+    let first = message.len();
+    let last = first + slack.len();
+    copy_block(&mut parts[..first], message);
+    copy_block(&mut parts[first..last], slack);
+    encode_parts(a, &parts[..last], codeword);
+}
+
+// The message is the first k parts, the slack the others.
+fn encode_parts(a: Params, parts: &[u8], codeword: &mut [u8])
+    requires { ⌜ Valid a ⌝ }
+    requires { ⌜ (length (now parts) ≡ working a * a .b) × (length (now codeword) ≡ a .n * a .b) ⌝ }
+    ensures { λ _. ⌜ Encoded a (take (a .k * a .b) (now (parts .entry))) (drop (a .k * a .b) (now (parts .entry))) (now (codeword .exit)) ⌝ }
+{
+    let mut rows = [0u8; 1024];
+    encode_within(a, parts, &mut rows, codeword);
+}
+
+// The same, with room for the powers: a row for each node, a column for each part.
+fn encode_within(a: Params, parts: &[u8], rows: &mut [u8], codeword: &mut [u8])
+    requires { ⌜ Valid a ⌝ }
+    requires { ⌜ (length (now parts) ≡ working a * a .b) × (length (now codeword) ≡ a .n * a .b) ⌝ }
+    requires { ⌜ length (now rows) ≡ 1024 ⌝ }
+    ensures { λ _. ⌜ Encoded a (take (a .k * a .b) (now (parts .entry))) (drop (a .k * a .b) (now (parts .entry))) (now (codeword .exit)) ⌝ }
+{
     let n = a.n;
-    let k = a.k;
-    let b = a.b;
-    let l = a.slack_parts();
-    let q = k + l;
+    let q = a.working();
     let area = n * q;
     let nodes = NodeSet(0).outside(n).list();
     let order = in_order();
     power_rows(&nodes[..n], 0, q, &mut rows[..area]);
-    product(codeword, n, b, message, &order[..k], rows, q);
-    add_product(codeword, n, b, slack, &order[..l], &rows[k..], q);
+    product(codeword, n, a.b, parts, &order[..q], rows, q);
 }

@@ -5,7 +5,7 @@ use mathlib.Core.Bool.{Bool, true, false, not, _&&_, _||_, true≢false}
 use mathlib.Core.List.{List}
 use Prim.Native.Nat.{ℕ, suc, _+_, _-_, _*_, _^_, _≤_, _<_}
 use native.Mathlib.Omega.{arith}
-use borrow.Author.Tests.{not-true, lt-ltb, le-ltb, ltb-false, leb-true}
+use borrow.Author.Tests.{not-true, lt-ltb, le-ltb, ltb-false}
 use lib.Dec.{leb, ltb}
 use lib.ListN.{length, getD, take}
 use Rattle.base.specs.Seq.{cell}
@@ -32,7 +32,7 @@ use Rattle.coefficients.specs.Coefficients.{inOrder}
 use Rattle.coefficients.proofs.Laws.{size-most, first-length, first-at}
 use Rattle.maintenance.specs.Cores.{Extendable, Extended, Recomputable, Recomputed, Listing, Put}
 use Rattle.maintenance.proofs.PairBlocks.{rank-inside}
-use Rattle.maintenance.proofs.Served.{Outside, from-asks, listing}
+use Rattle.maintenance.proofs.Served.{Outside, outside-le, from-asks, listing}
 
 -- ---- the free nodes, and those that are written
 
@@ -40,7 +40,7 @@ use Rattle.maintenance.proofs.Served.{Outside, from-asks, listing}
 outside-node : (n s rest : ℕ) → n ≤ 32 → Outside n s rest → (j : ℕ) → has rest (suc j) ≡ true → (j < n) × (has s (suc j) ≡ false)
 outside-node n s rest hn told j e =
     let both = both-known (leb 1 (suc j) && leb (suc j) n) (not (has s (suc j))) (sym (outside-has n s rest hn told (suc j)) ∙ e) in
-    (leb-true (suc j) n (both-known (leb 1 (suc j)) (leb (suc j) n) (both .0) .1), not-true (has s (suc j)) (both .1))
+    (outside-le n s rest hn told (suc j) e, not-true (has s (suc j)) (both .1))
 
 -- outside those that are kept: in W' or above n
 written-has : (n m to kept made : ℕ) → n ≤ 32 → m ≤ 32 → Outside n to kept → Outside m kept made → (j : ℕ) → j < m

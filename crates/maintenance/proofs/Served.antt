@@ -17,7 +17,7 @@ use Rattle.params.specs.Params.{working}
 use Rattle.gates.specs.Valid.{Valid, RepairAccepted, CheckAccepted}
 use Rattle.params.specs.declared.Params.{Params}
 use Rattle.base.proofs.Questions.{both-known}
-use Rattle.params.proofs.Sets.{has-none, range-yes, range-no, count-ext, count-range, size-count, within-has, outside-has}
+use Rattle.params.proofs.Sets.{has-none, range-yes, range-no, count-le, count-ext, count-range, size-count, within-has, within-size, outside-has, outside-size}
 use Rattle.gates.proofs.Valid.{working-is, working-le}
 use Rattle.code.specs.Code.{block, Gives, upTo}
 use Rattle.code.specs.Calls.{Repaired}
@@ -30,6 +30,17 @@ use Rattle.maintenance.specs.Cores.{Recomputable, Recomputed, Listing, P
 -- what NodeSet::outside gives
 abbrev pub Outside : ℕ → ℕ → ℕ → Type 0
 Outside n s rest = (i : ℕ) → has rest i ≡ (outside n s i && leb i 32)
+
+-- such a set has nodes up to n only, and so at most n of them
+module _ (n s rest : ℕ) (hn : n ≤ 32) (told : Outside n s rest) where
+  pub outside-le : (i : ℕ) → has rest i ≡ true → i ≤ n
+  outside-le i e =
+      let x = both-known (leb 1 i && leb i n) (not (has s i)) (sym (outside-has n s rest hn told i) ∙ e) .0 in
+      leb-true i n (both-known (leb 1 i) (leb i n) x .1)
+
+  -- m is their number, as the code counts them
+  pub outside-most : (m : ℕ) → rest < 2 ^ 32 → m ≡ size rest → m ≤ n
+  outside-most m word e = omega (arith, within-size n rest (within-has n rest word .1 outside-le), count-le (has rest) n)
 
 -- R of r nodes asks for fresh blocks
 pub from-asks : (a : Params) (from targets codeword fresh : ℕ) → from < 2 ^ 32 → Valid a → within (a .n) from ≡ true → size from ≡ a .r
@@ -90,9 +101,7 @@ module _ (q s : ℕ) (most : q ≤ 32) (told : Outside q 0 s) where
         ∙ ap not (first-has (suc j) ∙ range-no q j hq)
 
     rest-most : (j : ℕ) → has rest (suc j) ≡ true → j < n
-    rest-most j e =
-        let x = both-known (leb 1 (suc j) && leb (suc j) n) (not (has s (suc j))) (sym (outside-has n s rest hn others (suc j)) ∙ e) .0 in
-        leb-true (suc j) n (both-known (leb 1 (suc j)) (leb (suc j) n) x .1)
+    rest-most j e = outside-le n s rest hn others (suc j) e
 
 -- ---- check
 
@@ -104,6 +113,13 @@ module _ (a : Params) (codeword : List ℕ) (ok : CheckAccepted a (length codewo
     (told : Outside q 0 s) (others : Outside (a .n) s rest) where
   most : q ≤ 32
   most = omega (arith, working-le a (ok .valid), ok .valid .shape .n-high)
+
+  -- the others, m of them as the code counts them, are those behind the first r
+  pub others-count : (m : ℕ) → rest < 2 ^ 32 → m ≡ size rest → m ≡ a .n - a .r
+  others-count m word′ e =
+      let inside = within-has (a .n) s word .1 (λ i h. omega (arith, first-most q s most told i h, working-le a (ok .valid))) in
+      e ∙ outside-size (a .n) s rest (ok .valid .shape .n-high) others word′ inside
+      ∙ ap (λ (k : ℕ). a .n - k) (first-size q s most told word ∙ hq ∙ working-is a (ok .valid))
 
   pub check-asks : (fresh : ℕ) → fresh ≡ size rest * a .b → Recomputable a s rest (length codeword) fresh × Listing (a .b) rest (length codeword) fresh
   check-asks fresh room = (

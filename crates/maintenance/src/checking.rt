@@ -7,7 +7,7 @@ use gates::check_gate;
 use params::Node;
 use params::NodeSet;
 use params::Params;
-ghost use mathlib.Core.Path.{_≡_};
+ghost use Prim.Native.Nat.{_-_, _*_, _≤_};
 ghost use lib.ListN.{length};
 ghost use Rattle.gates.specs.Valid.{CheckAccepted};
 ghost use Rattle.code.specs.Calls.{CheckPost};
@@ -24,8 +24,40 @@ pub fn check(a: Params, codeword: &[u8]) -> Verdict
     check_blocks(a, codeword)
 }
 
-// An accepted call: makes room and lends it.
+// An accepted call: makes room for the blocks of the nodes behind the first r, no more than is wanted, since room is cleared at each call.
 fn check_blocks(a: Params, codeword: &[u8]) -> Verdict
+    requires { ⌜ CheckAccepted a (length (now codeword)) ⌝ }
+    ensures { λ r. ⌜ Served a (now (codeword .entry)) r ⌝ }
+{
+    let size = (a.n - a.r) * a.b;
+    if size <= 1024 {
+        return check_few(a, codeword);
+    }
+    if size <= 10240 {
+        return check_more(a, codeword);
+    }
+    check_many(a, codeword)
+}
+
+fn check_few(a: Params, codeword: &[u8]) -> Verdict
+    requires { ⌜ CheckAccepted a (length (now codeword)) ⌝ }
+    requires { ⌜ (a .n - a .r) * a .b ≤ 1024 ⌝ }
+    ensures { λ r. ⌜ Served a (now (codeword .entry)) r ⌝ }
+{
+    let mut fresh = [0u8; 1024];
+    check_within(a, codeword, &mut fresh)
+}
+
+fn check_more(a: Params, codeword: &[u8]) -> Verdict
+    requires { ⌜ CheckAccepted a (length (now codeword)) ⌝ }
+    requires { ⌜ (a .n - a .r) * a .b ≤ 10240 ⌝ }
+    ensures { λ r. ⌜ Served a (now (codeword .entry)) r ⌝ }
+{
+    let mut fresh = [0u8; 10240];
+    check_within(a, codeword, &mut fresh)
+}
+
+fn check_many(a: Params, codeword: &[u8]) -> Verdict
     requires { ⌜ CheckAccepted a (length (now codeword)) ⌝ }
     ensures { λ r. ⌜ Served a (now (codeword .entry)) r ⌝ }
 {
@@ -36,7 +68,7 @@ fn check_blocks(a: Params, codeword: &[u8]) -> Verdict
 // The nodes 1..q agree with their own pair; the others are compared with it.
 fn check_within(a: Params, codeword: &[u8], fresh: &mut [u8]) -> Verdict
     requires { ⌜ CheckAccepted a (length (now codeword)) ⌝ }
-    requires { ⌜ length (now fresh) ≡ 32768 ⌝ }
+    requires { ⌜ (a .n - a .r) * a .b ≤ length (now fresh) ⌝ }
     ensures { λ r. ⌜ Served a (now (codeword .entry)) r ⌝ }
 {
     let first = NodeSet(0).outside(a.working());

@@ -10,7 +10,7 @@ use gates::reconfigure_gate;
 use params::NodeSet;
 use params::Params;
 use params::Shape;
-ghost use mathlib.Core.Path.{_≡_};
+ghost use Prim.Native.Nat.{_≤_};
 ghost use lib.ListN.{length};
 ghost use Rattle.gates.specs.Valid.{ReconfigureAccepted};
 ghost use Rattle.code.specs.Calls.{Reconfigured, ReconfigurePost};
@@ -35,8 +35,88 @@ pub fn reconfigure(
     0
 }
 
-// An accepted call: makes room and lends it.
+// An accepted call: makes room for blocks twice, no more than is wanted, since room is cleared at each call. No set of the new nodes has more blocks than out.
 fn rearrange(
+    a: Params,
+    shape: Shape,
+    codeword: &[u8],
+    from: NodeSet,
+    to: NodeSet,
+    message: &[u8],
+    out: &mut [u8],
+)
+    requires { ⌜ ReconfigureAccepted a shape (length (now codeword)) (length (now out)) (length (now message)) (from .0) (to .0) ⌝ }
+    ensures { λ _. ⌜ Reconfigured a shape (now (codeword .entry)) (from .0) (to .0) (now (message .entry)) (now (out .exit)) ⌝ }
+{
+    let size = out.len();
+    if size <= 1024 {
+        rearrange_few(a, shape, codeword, from, to, message, out);
+        return;
+    }
+    if size <= 10240 {
+        rearrange_more(a, shape, codeword, from, to, message, out);
+        return;
+    }
+    rearrange_many(a, shape, codeword, from, to, message, out);
+}
+
+fn rearrange_few(
+    a: Params,
+    shape: Shape,
+    codeword: &[u8],
+    from: NodeSet,
+    to: NodeSet,
+    message: &[u8],
+    out: &mut [u8],
+)
+    requires { ⌜ ReconfigureAccepted a shape (length (now codeword)) (length (now out)) (length (now message)) (from .0) (to .0) ⌝ }
+    requires { ⌜ length (now out) ≤ 1024 ⌝ }
+    ensures { λ _. ⌜ Reconfigured a shape (now (codeword .entry)) (from .0) (to .0) (now (message .entry)) (now (out .exit)) ⌝ }
+{
+    let mut z = [0u8; 1024];
+    let mut fresh = [0u8; 1024];
+    rearrange_within(
+        a,
+        shape,
+        codeword,
+        from,
+        to,
+        message,
+        &mut z,
+        &mut fresh,
+        out,
+    );
+}
+
+fn rearrange_more(
+    a: Params,
+    shape: Shape,
+    codeword: &[u8],
+    from: NodeSet,
+    to: NodeSet,
+    message: &[u8],
+    out: &mut [u8],
+)
+    requires { ⌜ ReconfigureAccepted a shape (length (now codeword)) (length (now out)) (length (now message)) (from .0) (to .0) ⌝ }
+    requires { ⌜ length (now out) ≤ 10240 ⌝ }
+    ensures { λ _. ⌜ Reconfigured a shape (now (codeword .entry)) (from .0) (to .0) (now (message .entry)) (now (out .exit)) ⌝ }
+{
+    let mut z = [0u8; 10240];
+    let mut fresh = [0u8; 10240];
+    rearrange_within(
+        a,
+        shape,
+        codeword,
+        from,
+        to,
+        message,
+        &mut z,
+        &mut fresh,
+        out,
+    );
+}
+
+fn rearrange_many(
     a: Params,
     shape: Shape,
     codeword: &[u8],
@@ -76,7 +156,7 @@ fn rearrange_within(
     out: &mut [u8],
 )
     requires { ⌜ ReconfigureAccepted a shape (length (now codeword)) (length (now out)) (length (now message)) (from .0) (to .0) ⌝ }
-    requires { ⌜ (length (now z) ≡ 32768) × (length (now fresh) ≡ 32768) ⌝ }
+    requires { ⌜ (length (now out) ≤ length (now z)) × (length (now out) ≤ length (now fresh)) ⌝ }
     ensures { λ _. ⌜ Reconfigured a shape (now (codeword .entry)) (from .0) (to .0) (now (message .entry)) (now (out .exit)) ⌝ }
 {
     let free = to.outside(shape.n);

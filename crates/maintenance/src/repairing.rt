@@ -18,21 +18,42 @@ pub fn repair(a: Params, codeword: &mut [u8], from: NodeSet, lost: NodeSet) -> u
     if gate != 0 {
         return gate;
     }
-    if lost.size() * a.b <= 1024 {
-        repair_few(a, codeword, from, lost);
-        return 0;
-    }
-    repair_many(a, codeword, from, lost);
+    repair_blocks(a, codeword, from, lost);
     0
 }
 
-// An accepted call: makes room and lends it, no more than is wanted for a few bytes.
+// An accepted call: makes room for the lost blocks, no more than is wanted, since room is cleared at each call.
+fn repair_blocks(a: Params, codeword: &mut [u8], from: NodeSet, lost: NodeSet)
+    requires { ⌜ RepairAccepted a (length (now codeword)) (from .0) (lost .0) ⌝ }
+    ensures { λ _. ⌜ Repaired a (now (codeword .entry)) (from .0) (lost .0) (now (codeword .exit)) ⌝ }
+{
+    let size = lost.size() * a.b;
+    if size <= 1024 {
+        repair_few(a, codeword, from, lost);
+        return;
+    }
+    if size <= 10240 {
+        repair_more(a, codeword, from, lost);
+        return;
+    }
+    repair_many(a, codeword, from, lost);
+}
+
 fn repair_few(a: Params, codeword: &mut [u8], from: NodeSet, lost: NodeSet)
     requires { ⌜ RepairAccepted a (length (now codeword)) (from .0) (lost .0) ⌝ }
     requires { ⌜ size (lost .0) * a .b ≤ 1024 ⌝ }
     ensures { λ _. ⌜ Repaired a (now (codeword .entry)) (from .0) (lost .0) (now (codeword .exit)) ⌝ }
 {
     let mut fresh = [0u8; 1024];
+    repair_within(a, codeword, from, lost, &mut fresh);
+}
+
+fn repair_more(a: Params, codeword: &mut [u8], from: NodeSet, lost: NodeSet)
+    requires { ⌜ RepairAccepted a (length (now codeword)) (from .0) (lost .0) ⌝ }
+    requires { ⌜ size (lost .0) * a .b ≤ 10240 ⌝ }
+    ensures { λ _. ⌜ Repaired a (now (codeword .entry)) (from .0) (lost .0) (now (codeword .exit)) ⌝ }
+{
+    let mut fresh = [0u8; 10240];
     repair_within(a, codeword, from, lost, &mut fresh);
 }
 

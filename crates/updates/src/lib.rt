@@ -81,13 +81,18 @@ fn write_within(
     product(out, w, b, change, &order[..k], leading, k);
 }
 
-// Few differences get a small buffer, so that a small update does not clear a large one.
+// An accepted call: makes room for the differences, no more than is wanted, since room is cleared at each call.
 fn add_differences(a: Params, codeword: &mut [u8], change: &[u8], to: NodeSet)
     requires { ⌜ UpdateAccepted a (length (now codeword)) (length (now change)) (to .0) ⌝ }
     ensures { λ _. ⌜ Updated a (now (codeword .entry)) (now (change .entry)) (to .0) (now (codeword .exit)) ⌝ }
 {
-    if a.w * a.b <= 1024 {
+    let size = a.w * a.b;
+    if size <= 1024 {
         add_few(a, codeword, change, to);
+        return;
+    }
+    if size <= 10240 {
+        add_more(a, codeword, change, to);
         return;
     }
     add_many(a, codeword, change, to);
@@ -99,6 +104,15 @@ fn add_few(a: Params, codeword: &mut [u8], change: &[u8], to: NodeSet)
     ensures { λ _. ⌜ Updated a (now (codeword .entry)) (now (change .entry)) (to .0) (now (codeword .exit)) ⌝ }
 {
     let mut fresh = [0u8; 1024];
+    add_within(a, codeword, change, to, &mut fresh);
+}
+
+fn add_more(a: Params, codeword: &mut [u8], change: &[u8], to: NodeSet)
+    requires { ⌜ UpdateAccepted a (length (now codeword)) (length (now change)) (to .0) ⌝ }
+    requires { ⌜ a .w * a .b ≤ 10240 ⌝ }
+    ensures { λ _. ⌜ Updated a (now (codeword .entry)) (now (change .entry)) (to .0) (now (codeword .exit)) ⌝ }
+{
+    let mut fresh = [0u8; 10240];
     add_within(a, codeword, change, to, &mut fresh);
 }
 

@@ -1,32 +1,30 @@
--- The rows of powers take message and slack to the blocks. Assumes nothing.
-use mathlib.Core.Path.{refl, sym, ap, _∙_}
-use Prim.Native.Nat.{ℕ, _+_, _*_, _≤_}
+-- The rows of powers take message and slack, side by side, to the blocks. Assumes nothing.
+use mathlib.Core.Path.{sym, ap, _∙_}
+use Prim.Native.Nat.{ℕ, _*_, _≤_}
 use native.Mathlib.Omega.{arith}
 use borrow.Author.Needs.{needs}
 use denote.Ref.{now}
 use lib.ListN.{take}
 use lib.Seq.{length-take-le}
-use Rattle.gates.proofs.Valid.{slack-add}
+use Rattle.gates.proofs.Valid.{working-held}
 use Rattle.coefficients.proofs.Laws.{areas-fit}
-use Rattle.access.proofs.PowerBlocks.{all-listed, encoded, part-to-end}
+use Rattle.access.proofs.PowerBlocks.{all-listed, encoded}
 use Rattle.access.proofs.encoding.encode_within.Statement.{statement}
 use Rattle.access.proofs.encoding.encode_within.Tie as tie
 
-slack-parts-requires : tie.Need-slack-parts-requires
-slack-parts-requires c κs = search needs
+working-requires : tie.Need-working-requires
+working-requires c κs = search needs
 
 -- a node's block has at most 32 parts
-most : (c : tie.After-slack-parts) → c .before .before .before .before .before .args .a .k + c .slack-parts .result ≤ 32
+most : (c : tie.After-working) → c .working .result ≤ 32
 most c =
-    let v = c .before .before .before .before .before .pre .0 .valid in
-    omega (arith, c .slack-parts .ensures, slack-add (c .before .before .before .before .before .args .a) v, v .shape .k-le-w, v .shape .n-high)
+    let s = c .before .before .before .before in
+    let v = s .pre .0 in
+    omega (arith, c .working .ensures, working-held (s .args .a) v, v .shape .r-le-n, v .shape .n-high)
 
 -- and there is room for the rows
-area : (c : tie.After-slack-parts) → c .before .before .before .before .before .args .a .n * (c .before .before .before .before .before .args .a .k + c .slack-parts .result) ≤ 1024
-area c = areas-fit _ _ (c .before .before .before .before .before .pre .0 .valid .shape .n-high) (most c)
-
-add-q : tie.Need-add-q
-add-q c = omega (arith, most c)
+area : (c : tie.After-working) → c .before .before .before .before .args .a .n * c .working .result ≤ 1024
+area c = areas-fit _ _ (c .before .before .before .before .pre .0 .shape .n-high) (most c)
 
 mul-area : tie.Need-mul-area
 mul-area c = omega (arith, area c)
@@ -47,40 +45,22 @@ slice-aggregate-power-rows : tie.Need-slice-aggregate-power-rows
 slice-aggregate-power-rows c = sym (length-take-le _ (c .before .before .list .result) (array-share-prefix-nodes (c .before)))
 
 slice-relend-prefix-power-rows : tie.Need-slice-relend-prefix-power-rows
-slice-relend-prefix-power-rows c = omega (arith, area (c .before .before .before .before), c .before .before .before .before .before .before .before .before .before .pre .1)
+slice-relend-prefix-power-rows c = omega (arith, area (c .before .before .before .before), c .before .before .before .before .before .before .before .before .pre .1 .1)
 
 slice-aggregate-power-rows-2 : tie.Need-slice-aggregate-power-rows-2
-slice-aggregate-power-rows-2 c = sym (length-take-le _ (now (c .before .before .before .before .before .before .before .before .before .before .args .rows)) (slice-relend-prefix-power-rows (c .before)))
+slice-aggregate-power-rows-2 c = sym (length-take-le _ (now (c .before .before .before .before .before .before .before .before .before .args .rows)) (slice-relend-prefix-power-rows (c .before)))
 
 power-rows-requires : tie.Need-power-rows-requires
 power-rows-requires c κs = search needs
 
 array-share-prefix-order : tie.Need-array-share-prefix-order
-array-share-prefix-order c = search needs
+array-share-prefix-order c = omega (arith, most (c .before .before .before .before .before .before .before .before .before))
 
 slice-aggregate-product : tie.Need-slice-aggregate-product
 slice-aggregate-product c = sym (length-take-le _ (c .before .before .before .before .before .before .before .in-order .result) (array-share-prefix-order (c .before)))
 
 product-requires : tie.Need-product-requires
 product-requires c κs = search needs
-
-array-share-prefix-order-2 : tie.Need-array-share-prefix-order-2
-array-share-prefix-order-2 c = omega (arith, most (c .before .before .before .before .before .before .before .before .before .before .before .before .before .before .before))
-
-slice-aggregate-add-product : tie.Need-slice-aggregate-add-product
-slice-aggregate-add-product c = sym (length-take-le _ (c .before .before .before .before .before .before .before .before .before .before .before .before .before .in-order .result) (array-share-prefix-order-2 (c .before)))
-
-sub-add-product : tie.Need-sub-add-product
-sub-add-product c = search needs
-
-part-add-product-start : tie.Need-part-add-product-start
-part-add-product-start c = search needs
-
-part-add-product-end : tie.Need-part-add-product-end
-part-add-product-end c = search needs
-
-add-product-requires : tie.Need-add-product-requires
-add-product-requires c κs = search needs
 
 same-length : tie.Need-same-length
 same-length c = search needs
@@ -90,30 +70,27 @@ same-length-2 c = search needs
 
 returns : tie.Need-returns
 returns c =
-    let m = c .before .before in
-    let p = m .before .before .before .before .before .before .before in
+    let p = c .before .before in
     let r = p .before .before .before .before .before .before in
     let f = r .before .before in
     let o = f .before in
     let l = o .before in
     let u = l .before in
     let z = u .before in
-    let s = z .before .before .before .before .before in
+    let s = z .before .before .before .before in
     let full = slice-aggregate-power-rows f in
-    let room = sym (slice-aggregate-power-rows-2 (r .before)) ∙ ap (λ (n : ℕ). n * (s .args .a .k + z .slack-parts .result)) full in
-    encoded (s .args .a) _ (take (s .args .a .n) (l .list .result)) (r .power-rows .last .1 .1 .1 .0) _ (sym full)
-    (all-listed (s .args .a .n) (u .outside .result .0) (s .pre .0 .valid .shape .n-high) (u .outside .ensures) (l .list .result)
+    let room = sym (slice-aggregate-power-rows-2 (r .before)) ∙ ap (λ (n : ℕ). n * z .working .result) full in
+    encoded (s .args .a) (s .pre .0) (z .working .result) (z .working .ensures) (take (s .args .a .n) (l .list .result)) (r .power-rows .last .1 .1 .1 .0) _ (sym full)
+    (all-listed (s .args .a .n) (u .outside .result .0) (s .pre .0 .shape .n-high) (u .outside .ensures) (l .list .result)
     (omega (arith, u .outside .ok)) (l .list .ensures))
-    (r .power-rows .ensures .written room) (z .slack-parts .result) (now (s .args .message)) (now (s .args .slack)) (o .in-order .result) _
-    (now (s .args .codeword)) (p .product .last .0) _ (s .pre .0) (z .slack-parts .ensures) refl (o .in-order .ensures)
-    (part-to-end (s .args .a .k) _) (p .product .ensures) (m .add-product .ensures)
+    (r .power-rows .ensures .written room) (now (s .args .parts)) (o .in-order .result) (now (s .args .codeword)) _ (s .pre .1 .0 .0) (s .pre .1 .0 .1)
+    (o .in-order .ensures) (p .product .ensures)
 
 pub encode-within-spec : {M : Type 1} → statement M
 encode-within-spec =
     tie.close
     (tie.spec
-    slack-parts-requires
-    add-q
+    working-requires
     mul-area
     outside-requires
     list-requires
@@ -126,12 +103,6 @@ encode-within-spec =
     array-share-prefix-order
     slice-aggregate-product
     product-requires
-    array-share-prefix-order-2
-    slice-aggregate-add-product
-    sub-add-product
-    part-add-product-start
-    part-add-product-end
-    add-product-requires
     same-length
     same-length-2
     returns)

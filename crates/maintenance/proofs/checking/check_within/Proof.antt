@@ -1,5 +1,5 @@
 -- The other nodes' blocks are recomputed from the first nodes', and compared. Assumes nothing.
-use mathlib.Core.Path.{_≡_, sym, ap, _∙_, subst}
+use mathlib.Core.Path.{_≡_, sym, ap, _∙_, subst, subst⁻¹}
 use mathlib.Core.List.{List}
 use Prim.Native.Nat.{ℕ, _*_, _^_, _≤_, _<_}
 use native.Mathlib.Omega.{arith}
@@ -10,9 +10,8 @@ use lib.Seq.{length-take-le}
 use Rattle.params.specs.Nodes.{size}
 use Rattle.params.specs.Params.{working}
 use Rattle.maintenance.specs.Cores.{Searched}
-use Rattle.coefficients.proofs.Laws.{buffer-front, buffer-fits, buffer-count, size-most}
-use Rattle.gates.proofs.Valid.{blocks-most}
-use Rattle.maintenance.proofs.Served.{working-exact, check-asks, served}
+use Rattle.coefficients.proofs.Laws.{buffer-front, buffer-fits, buffer-count}
+use Rattle.maintenance.proofs.Served.{working-exact, others-count, check-asks, served}
 use Rattle.maintenance.proofs.checking.check_within.Statement.{statement}
 use Rattle.maintenance.proofs.checking.check_within.Tie as tie
 
@@ -36,17 +35,18 @@ module _ (c : tie.After-size) where
   word : c .before .before .outside .result .0 < 2 ^ 32
   word = omega arith
 
-  most : c .size .result * c .before .before .before .before .before .before .args .a .b ≤ 32768
-  most = blocks-most _ _ (omega (arith, c .size .ensures, size-most (c .before .outside2 .result .0) (omega arith))) (c .before .before .before .before .before .before .pre .0 .valid .b-high)
-
   fits : c .size .result * c .before .before .before .before .before .before .args .a .b ≤ length (now (c .before .before .before .before .before .before .args .fresh))
-  fits = omega (arith, most, c .before .before .before .before .before .before .pre .1)
+  fits =
+      let s = c .before .before .before .before .before .before in
+      subst⁻¹ (λ (m : ℕ). m * s .args .a .b ≤ length (now (s .args .fresh)))
+      (others-count (s .args .a) (now (s .args .codeword)) (s .pre .0) _ _ _ word exact (c .before .before .outside .ensures) (c .before .outside2 .ensures) _ (omega arith) (c .size .ensures))
+      (s .pre .1)
 
   room : c .size .result * c .before .before .before .before .before .before .args .a .b ≡ size (c .before .outside2 .result .0) * c .before .before .before .before .before .before .args .a .b
   room = ap (λ (m : ℕ). m * c .before .before .before .before .before .before .args .a .b) (c .size .ensures)
 
 mul-used : tie.Need-mul-used
-mul-used c = omega (arith, most (c .before))
+mul-used c = omega (arith, fits (c .before))
 
 slice-relend-prefix-recompute : tie.Need-slice-relend-prefix-recompute
 slice-relend-prefix-recompute c = fits (c .before)

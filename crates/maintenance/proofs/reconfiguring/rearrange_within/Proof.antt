@@ -2,6 +2,7 @@
 use mathlib.Core.Path.{_≡_, sym, ap, _∙_, subst}
 use mathlib.Core.List.{List}
 use Prim.Native.Nat.{ℕ, _*_, _^_, _≤_, _<_}
+use native.Mathlib.Nat.{mul-le-mul-right}
 use native.Mathlib.Omega.{arith}
 use borrow.Author.Needs.{needs}
 use denote.Ref.{now}
@@ -10,7 +11,8 @@ use lib.Seq.{length-take-le}
 use Rattle.params.specs.Nodes.{size}
 use Rattle.maintenance.specs.Cores.{Extended, Put}
 use Rattle.coefficients.proofs.Laws.{buffer-front, buffer-fits, buffer-count, size-most, length-in-order, first-length, first-at}
-use Rattle.gates.proofs.Valid.{blocks-most}
+use Rattle.gates.proofs.Valid.{blocks-fit}
+use Rattle.maintenance.proofs.Served.{outside-most}
 use Rattle.maintenance.proofs.Rearranged.{free-asks, made-asks, made-listing, rearranged}
 use Rattle.maintenance.proofs.reconfiguring.rearrange_within.Statement.{statement}
 use Rattle.maintenance.proofs.reconfiguring.rearrange_within.Tie as tie
@@ -41,34 +43,38 @@ module _ (c : tie.After-size) where
   free-most : c .size .result ≤ 32
   free-most = omega (arith, c .size .ensures, size-most _ free-word)
 
-  old-most : c .size .result * c .before .before .before .before .before .before .before .before .before .args .a .b ≤ 32768
-  old-most = blocks-most _ _ free-most (c .before .before .before .before .before .before .before .before .before .pre .0 .valid .b-high)
+  free-count : c .size .result ≤ c .before .before .before .before .before .before .before .before .before .args .shape .n
+  free-count = outside-most _ _ _ (c .before .before .before .before .before .before .before .before .before .pre .0 .valid-new .shape .n-high) (c .before .before .before .outside .ensures) _ free-word (c .size .ensures)
 
   old-fits : c .size .result * c .before .before .before .before .before .before .before .before .before .args .a .b ≤ length (now (c .before .before .before .before .before .before .before .before .before .args .z))
-  old-fits = omega (arith, old-most, c .before .before .before .before .before .before .before .before .before .pre .1 .0)
+  old-fits =
+      let s = c .before .before .before .before .before .before .before .before .before in
+      omega (arith, mul-le-mul-right (s .args .a .b) free-count, s .pre .0 .new-length, s .pre .1 .0)
 
   old-room : c .size .result * c .before .before .before .before .before .before .before .before .before .args .a .b ≡ size (c .before .before .before .outside .result .0) * c .before .before .before .before .before .before .before .before .before .args .a .b
   old-room = ap (λ (m : ℕ). m * c .before .before .before .before .before .before .before .before .before .args .a .b) (c .size .ensures)
 
 mul-old : tie.Need-mul-old
-mul-old c = omega (arith, old-most (c .before))
+mul-old c = blocks-fit (c .before .before .before .before .before .before .before .before .before .before .pre .0 .valid-new) _ (free-count (c .before))
 
 size-requires-2 : tie.Need-size-requires-2
 size-requires-2 c κs = search needs
 
 -- the nodes that are written, and the part of fresh that is used
 module _ (c : tie.After-size2) where
-  new-most : c .size2 .result * c .before .before .before .before .before .before .before .before .before .before .before .args .a .b ≤ 32768
-  new-most = blocks-most _ _ (omega (arith, c .size2 .ensures, size-most _ (made-word (c .before .before)))) (c .before .before .before .before .before .before .before .before .before .before .before .pre .0 .valid .b-high)
+  made-count : c .size2 .result ≤ c .before .before .before .before .before .before .before .before .before .before .before .args .shape .n
+  made-count = outside-most _ _ _ (c .before .before .before .before .before .before .before .before .before .before .before .pre .0 .valid-new .shape .n-high) (c .before .before .before .outside3 .ensures) _ (made-word (c .before .before)) (c .size2 .ensures)
 
   new-fits : c .size2 .result * c .before .before .before .before .before .before .before .before .before .before .before .args .a .b ≤ length (now (c .before .before .before .before .before .before .before .before .before .before .before .args .fresh))
-  new-fits = omega (arith, new-most, c .before .before .before .before .before .before .before .before .before .before .before .pre .1 .1)
+  new-fits =
+      let s = c .before .before .before .before .before .before .before .before .before .before .before in
+      omega (arith, mul-le-mul-right (s .args .a .b) made-count, s .pre .0 .new-length, s .pre .1 .1)
 
   new-room : c .size2 .result * c .before .before .before .before .before .before .before .before .before .before .before .args .a .b ≡ size (c .before .before .before .outside3 .result .0) * c .before .before .before .before .before .before .before .before .before .before .before .args .a .b
   new-room = ap (λ (m : ℕ). m * c .before .before .before .before .before .before .before .before .before .before .before .args .a .b) (c .size2 .ensures)
 
 mul-new : tie.Need-mul-new
-mul-new c = omega (arith, new-most (c .before))
+mul-new c = blocks-fit (c .before .before .before .before .before .before .before .before .before .before .before .before .pre .0 .valid-new) _ (made-count (c .before))
 
 in-order-requires : tie.Need-in-order-requires
 in-order-requires c κs = search needs
