@@ -3,6 +3,7 @@ mod Fitting
 mod Summing
 mod Stretches
 mod RowByRow
-mod Multiples
-mod Columns
+mod Digits
+mod Choices
+mod Lanes
 mod Spans

@@ -13,7 +13,7 @@ use Rattle.field.proofs.FiniteSum.{sum-ext}
 use Rattle.kernels.specs.Blocks.{product, Fits, Multiplied, Added, Inside, rowOf, combined, Accumulated}
 use Rattle.kernels.proofs.Stretches.{stretch-at}
 
-pub rowOf-at : (stride width i : ℕ) (coeffs : List ℕ) (j : ℕ) → j < width → getD (rowOf stride width i coeffs) j 0 ≡ cell stride coeffs i j
+rowOf-at : (stride width i : ℕ) (coeffs : List ℕ) (j : ℕ) → j < width → getD (rowOf stride width i coeffs) j 0 ≡ cell stride coeffs i j
 unfolding cell
 rowOf-at stride width i coeffs j h = stretch-at (i * stride) width coeffs j h
 

@@ -1,16 +1,27 @@
--- What the private functions of the tiled product compute; no statement about a call rests on these names. A tile is 64 bytes, and the table of a
--- column is 16 tiles, the multiples 0 to 15 of the column's tile. Assumes nothing.
+-- What the private functions of the tiled product compute; no statement about a call rests on these names. A tile is 64 bytes. Columns go in groups of
+-- four, and the table of a group is 16 tiles, the sums over every choice of its columns. Assumes nothing.
 use mathlib.Core.Path.{_≡_}
 use mathlib.Core.List.{List}
-use Prim.Native.Nat.{ℕ, _+_, _-_, _*_, _/_, _%_, _<_}
-use borrow.Rule.Slice.PartMut.{putMid}
+use Prim.Native.Nat.{ℕ, zero, suc, _+_, _-_, _*_, _/_, _%_, _^_, _≤_, _<_, min}
 use lib.ListN.{length, getD}
 use Rattle.base.specs.Seq.{tabulate, cell}
-use Rattle.base.proofs.Parts.{partOf}
 use Rattle.field.specs.Field.{add, mul}
 use Rattle.field.specs.FiniteSum.{sum}
-use Rattle.blocks.specs.Bytes.{plus}
-use Rattle.kernels.specs.Blocks.{stretch, rowOf}
+
+-- ---- digits
+
+-- bit 7 - s of a byte
+unfoldable pub bit : ℕ → ℕ → ℕ
+bit s c = c * 2 ^ s / 128 % 2
+
+-- the number with the binary digits d 0 to d (m - 1), the first the highest
+unfoldable pub number : ℕ → (ℕ → ℕ) → ℕ
+number zero d = 0
+number (suc m) d = number m d * 2 + d m
+
+-- how many of the first n columns are in group g
+abbrev pub columns : ℕ → ℕ → ℕ
+columns n g = min (n - g * 4) 4
 
 -- ---- tables
 
@@ -18,48 +29,72 @@ use Rattle.kernels.specs.Blocks.{stretch, rowOf}
 unfoldable pub multiple : ℕ → List ℕ → List ℕ
 multiple c xs = tabulate (length xs) (λ p. mul c (getD xs p 0))
 
--- entry 2h + m of a table, for m below t, is twice entry h plus entry m; the entries below 2h are as they were
-pub record Raised (h t : ℕ) (old new : List ℕ) : Type 0 where
+-- byte p of column k's tile, which begins at byte `at` of its block
+abbrev pub tileAt : ℕ → ℕ → List ℕ → List ℕ → ℕ → ℕ → ℕ
+tileAt b at src places k p = cell b src (getD places k 0) (at + p)
+
+-- entry half + m of a table, for m below t, is entry m plus part; the entries below half are as they were
+pub record Raised (half t : ℕ) (part old new : List ℕ) : Type 0 where
   pub same : length new ≡ length old
-  pub lower : (n p : ℕ) → n < h * 2 → p < 64 → cell 64 new n p ≡ cell 64 old n p
-  pub upper : (m p : ℕ) → m < t → p < 64 → cell 64 new (h * 2 + m) p ≡ add (cell 64 old m p) (mul 2 (cell 64 old h p))
+  pub lower : (n p : ℕ) → n < half → p < 64 → cell 64 new n p ≡ cell 64 old n p
+  pub upper : (m p : ℕ) → m < t → p < 64 → cell 64 new (half + m) p ≡ add (cell 64 old m p) (getD part p 0)
 
--- entry n of a column's table is the tile times n; a byte that the tile does not have counts as 00
-pub record Multiples (tile table : List ℕ) : Type 0 where
+-- a group's table, byte p of column k being x k p: the entry that m digits name is the sum of the columns whose digit is 1
+pub record Chosen (w m : ℕ) (x : ℕ → ℕ → ℕ) (table : List ℕ) : Type 0 where
   pub size : length table ≡ 1024
-  pub entry : (n p : ℕ) → n < 16 → p < 64 → cell 64 table n p ≡ mul n (getD tile p 0)
+  pub entry : (d : ℕ → ℕ) (p : ℕ) → ((k : ℕ) → d k < 2) → p < w → cell 64 table (number m d) p ≡ sum m (λ k. mul (d k) (x k p))
 
--- new has the tables of the first t columns: the multiples of the w bytes from `at` on of the block at each place
+-- new has such tables of the first t groups, of the w bytes from `at` on of the block at each place
 pub record Tabled (b at w : ℕ) (src places : List ℕ) (t : ℕ) (old new : List ℕ) : Type 0 where
   pub same : length new ≡ length old
-  pub entry : (j n p : ℕ) → j < t → n < 16 → p < w → cell 64 new (j * 16 + n) p ≡ mul n (cell b src (getD places j 0) (at + p))
+  pub entry : (g : ℕ) (d : ℕ → ℕ) (p : ℕ) → g < t → ((k : ℕ) → d k < 2) → p < w
+      → cell 64 new (g * 16 + number (columns (length places) g) d) p ≡ sum (columns (length places) g) (λ k. mul (d k) (tileAt b at src places (g * 4 + k) p))
+
+-- ---- picks
+
+-- to each of 32 picks the top bit of its lane is appended
+unfoldable pub appended : List ℕ → List ℕ → List ℕ
+appended picks lanes = tabulate (length picks) (λ i. getD picks i 0 % 128 * 2 + getD lanes i 0 / 128)
+
+-- each lane loses its top bit
+unfoldable pub shifted : List ℕ → List ℕ
+shifted lanes = tabulate (length lanes) (λ i. getD lanes i 0 % 128 * 2)
+
+-- to pick i of bit s that bit of lane i is appended
+unfoldable pub longer : List ℕ → List ℕ → ℕ → ℕ → ℕ
+longer picks lanes s i = cell 32 picks s i % 128 * 2 + bit s (getD lanes i 0)
+
+-- the picks of the first n columns: each has the digits that are bit 7 - s of the coefficients of row i in group g
+pub record Picked (rows stride : ℕ) (coeffs : List ℕ) (n : ℕ) (picks : List ℕ) : Type 0 where
+  pub size : length picks ≡ 2048
+  pub pick : (g s i : ℕ) → g < 8 → s < 8 → i < rows → cell 256 picks g (s * 32 + i) ≡ number (columns n g) (λ k. bit s (cell stride coeffs i (g * 4 + k)))
 
 -- ---- rows
 
--- byte p of the sum of one entry of each of n columns' tables, that of column j named by pick j
-unfoldable pub picked : ℕ → List ℕ → (ℕ → ℕ) → ℕ → ℕ
-picked n table pick p = sum n (λ j. cell 64 table (j * 16 + pick j) p)
+-- byte p of the sum of one entry of each group's table: those that the groups' picks at place q name
+unfoldable pub named : ℕ → List ℕ → List ℕ → ℕ → ℕ → ℕ
+named groups table picks q p = sum groups (λ g. cell 64 table (g * 16 + cell 256 picks g q) p)
+
+-- row i by the first s bits from the top: twice what those before gave, plus the sum of the last
+unfoldable pub byBits : ℕ → List ℕ → List ℕ → ℕ → ℕ → ℕ → ℕ
+byBits groups table picks i zero p = 0
+byBits groups table picks i (suc s) p = add (mul 2 (byBits groups table picks i s p)) (named groups table picks (s * 32 + i) p)
 
 -- new is old plus such a sum
-pub record Gathered (n : ℕ) (table : List ℕ) (pick : ℕ → ℕ) (old new : List ℕ) : Type 0 where
+pub record Gathered (groups : ℕ) (table picks : List ℕ) (q : ℕ) (old new : List ℕ) : Type 0 where
   pub same : length new ≡ length old
-  pub sums : (p : ℕ) → p < 64 → getD new p 0 ≡ add (getD old p 0) (picked n table pick p)
+  pub sums : (p : ℕ) → p < 64 → getD new p 0 ≡ add (getD old p 0) (named groups table picks q p)
 
--- the entries that coefficient c of column j names: c % 16, and c / 16
-abbrev pub lows : List ℕ → ℕ → ℕ
-lows coeffs j = getD coeffs j 0 % 16
+-- every group's pick at place q names an entry that its table has
+pub record Reached (groups q : ℕ) (table picks : List ℕ) : Type 0 where
+  pub room : groups * 1024 ≤ length table
+  pub lanes : groups * 256 ≤ length picks
+  pub small : (g : ℕ) → g < groups → cell 256 picks g q < 16
 
-abbrev pub highs : List ℕ → ℕ → ℕ
-highs coeffs j = getD coeffs j 0 / 16
-
--- byte p of the sum of the first, plus 16 times that of the second
-unfoldable pub nibbles : List ℕ → List ℕ → ℕ → ℕ
-nibbles table coeffs p = add (picked (length coeffs) table (lows coeffs) p) (mul 16 (picked (length coeffs) table (highs coeffs) p))
-
--- these are added to the w bytes of a row from `at` on
-unfoldable pub spanned : ℕ → ℕ → List ℕ → List ℕ → List ℕ → List ℕ
-spanned at w table coeffs row = putMid at (at + w - at) row (plus (stretch at w row) (tabulate 64 (nibbles table coeffs)))
-
--- byte p of row i then
-unfoldable pub spannedAt : ℕ → ℕ → ℕ → ℕ → ℕ → List ℕ → List ℕ → List ℕ → ℕ → ℕ → ℕ
-spannedAt b at w stride width table coeffs old i p = getD (spanned at w table (rowOf stride width i coeffs) (partOf b i old)) p 0
+-- f is added to the w bytes from `at` on of the first t rows; all else is as it was
+pub record Spanned (b at w : ℕ) (f : ℕ → ℕ → ℕ) (t : ℕ) (old new : List ℕ) : Type 0 where
+  pub same : length new ≡ length old
+  pub done : (i p : ℕ) → i < t → p < w → cell b new i (at + p) ≡ add (cell b old i (at + p)) (f i p)
+  pub front : (i p : ℕ) → p < at → cell b new i p ≡ cell b old i p
+  pub back : (i p : ℕ) → at + w ≤ p → p < b → cell b new i p ≡ cell b old i p
+  pub rest : (i p : ℕ) → t ≤ i → p < b → cell b new i p ≡ cell b old i p

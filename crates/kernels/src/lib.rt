@@ -1,5 +1,6 @@
 // A matrix of coefficients times blocks: the loops that the calls spend their time in. The contract is narrow and holds for slices of any lengths, so that the
 // inside can be replaced by a faster one.
+mod picks;
 mod tables;
 mod tiles;
 
@@ -135,18 +136,17 @@ fn add_fitting(
         add_rows(out, rows, b, src, places, coeffs, stride);
         return;
     }
-    if width <= 8 {
-        tiles::add_narrow(out, rows, b, src, places, coeffs, stride);
-        return;
-    }
-    tiles::add_wide(out, rows, b, src, places, coeffs, stride);
+    tiles::add_tiled(out, rows, b, src, places, coeffs, stride);
 }
 
-// Whether a product of size bytes is added row by row: few bytes do not pay for tables, and those have room for 32 columns.
+// Whether a product of size bytes is added row by row: few bytes do not pay for tables, and those have room for 32 rows and columns.
 fn prefers_rows(rows: usize, size: usize, width: usize) -> bool
-    ensures { λ r. ⌜ (r ≡ false → width ≤ 32) ⌝ }
+    ensures { λ r. ⌜ (r ≡ false → (rows ≤ 32) × (width ≤ 32)) ⌝ }
 {
     if 32 < width {
+        return true;
+    }
+    if 32 < rows {
         return true;
     }
     if rows < 2 {

@@ -1,4 +1,6 @@
-// The 16 multiples of a tile, 64 bytes of a block, for each column of a product: three doublings, and sums of what is there already.
+// The sums of a tile, 64 bytes of a block, over every choice of columns from a group of four.
+use crate::clear;
+use base::shorter;
 use base::wide;
 use blocks::add_block;
 use blocks::copy_block;
@@ -9,11 +11,12 @@ ghost use lib.ListN.{length};
 ghost use Rattle.base.proofs.Parts.{partOf, putBlock};
 ghost use Rattle.blocks.specs.Bytes.{plus};
 ghost use Rattle.kernels.specs.Blocks.{Inside};
-ghost use Rattle.kernels.specs.Tiling.{multiple, Raised, Multiples, Tabled};
+ghost use Rattle.kernels.specs.Tiling.{multiple, tileAt, Raised, Chosen, Tabled};
 
-// The table of every column: the multiples of the w bytes from `at` on of the block at its place.
-pub(crate) fn fill_columns(
+// The table of every group: the sums of the w bytes from `at` on of the blocks at its places.
+pub(crate) fn fill_groups(
     table: &mut [u8],
+    groups: usize,
     b: usize,
     at: usize,
     w: usize,
@@ -22,60 +25,49 @@ pub(crate) fn fill_columns(
 )
     requires { ⌜ Inside b (now places) (length (now src)) ⌝ }
     requires { ⌜ (at + w ≤ b) × (w ≤ 64) ⌝ }
-    requires { ⌜ length (now places) * 1024 ≤ length (now table) ⌝ }
-    ensures { λ _. ⌜ Tabled b at w (now (src .entry)) (now (places .entry)) (length (now (places .entry))) (now (table .entry)) (now (table .exit)) ⌝ }
+    requires { ⌜ (groups * 4 ≤ length (now places) + 3) × (groups * 1024 ≤ length (now table)) ⌝ }
+    ensures { λ _. ⌜ Tabled b at w (now (src .entry)) (now (places .entry)) groups (now (table .entry)) (now (table .exit)) ⌝ }
 {
-    let count = places.len();
-    let mut j = 0;
-    while j < count {
-        let start = wide(places[j]) * b + at;
-        let end = start + w;
-        let first = j * 1024;
+    let mut g = 0;
+    while g < groups {
+        let j = g * 4;
+        let end = j + shorter(4, places.len() - j);
+        let first = g * 1024;
         let last = first + 1024;
-        fill_column(&mut table[first..last], &src[start..end]);
-        j += 1;
+        fill_group(&mut table[first..last], b, at, w, src, &places[j..end]);
+        g += 1;
     }
 }
 
-// The multiples of at most 64 bytes; a byte that part does not have counts as 00.
-fn fill_column(table: &mut [u8], part: &[u8])
-    requires { ⌜ length (now table) ≡ 1024 ⌝ }
-    requires { ⌜ length (now part) ≤ 64 ⌝ }
-    ensures { λ _. ⌜ Multiples (now (part .entry)) (now (table .exit)) ⌝ }
+// Entry n of a group's table: the sum of the columns that the bits of n name, the last column by the lowest bit.
+fn fill_group(table: &mut [u8], b: usize, at: usize, w: usize, src: &[u8], places: &[u8])
+    requires { ⌜ Inside b (now places) (length (now src)) ⌝ }
+    requires { ⌜ (at + w ≤ b) × (w ≤ 64) ⌝ }
+    requires { ⌜ (length (now places) ≤ 4) × (length (now table) ≡ 1024) ⌝ }
+    ensures { λ _. ⌜ Chosen w (length (now (places .entry))) (tileAt b at (now (src .entry)) (now (places .entry))) (now (table .exit)) ⌝ }
+{
+    clear(&mut table[0..64]);
+    let mut t = places.len();
+    let mut half = 1;
+    while 0 < t {
+        let start = wide(places[t - 1]) * b + at;
+        let end = start + w;
+        add_column(table, half, &src[start..end]);
+        half = half * 2;
+        t -= 1;
+    }
+}
+
+// Entries half to 2·half - 1: each entry below half, plus the column. A byte that the column does not have counts as 00.
+fn add_column(table: &mut [u8], half: usize, part: &[u8])
+    requires { ⌜ (length (now table) ≡ 1024) × (half ≤ 8) ⌝ }
+    ensures { λ _. ⌜ Raised half half (now (part .entry)) (now (table .entry)) (now (table .exit)) ⌝ }
 {
     let mut tile = [0u8; 64];
     add_part(&mut tile, part);
-    fill_multiples(table, &tile);
-}
-
-fn fill_multiples(table: &mut [u8], tile: &[u8])
-    requires { ⌜ length (now table) ≡ 1024 ⌝ }
-    requires { ⌜ length (now tile) ≡ 64 ⌝ }
-    ensures { λ _. ⌜ Multiples (now (tile .entry)) (now (table .exit)) ⌝ }
-{
-    let zeros = [0u8; 64];
-    set_tile(table, 0, &zeros);
-    set_tile(table, 1, tile);
-    fill_upper(table, 1);
-    fill_upper(table, 2);
-    fill_upper(table, 4);
-}
-
-// Entries 2h to 4h - 1: twice entry h, and to it each entry below 2h is added.
-fn fill_upper(table: &mut [u8], h: usize)
-    requires { ⌜ length (now table) ≡ 1024 ⌝ }
-    requires { ⌜ h ≤ 4 ⌝ }
-    ensures { λ _. ⌜ Raised h (h * 2) (now (table .entry)) (now (table .exit)) ⌝ }
-{
-    let from = h * 64;
-    let end = from + 64;
-    let mut twice = [0u8; 64];
-    copy_block(&mut twice, &table[from..end]);
-    double_tile(&mut twice);
-    let top = h * 2;
     let mut m = 0;
-    while m < top {
-        set_sum(table, top + m, m, &twice);
+    while m < half {
+        set_sum(table, half + m, m, &tile);
         m += 1;
     }
 }

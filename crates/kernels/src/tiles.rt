@@ -1,22 +1,24 @@
-// A product in tiles of 64 bytes. The 16 multiples of each column's tile are found once; then every row sums, for each coefficient c, the multiple
-// c % 16 into one tile and the multiple c / 16 into another: c·x = (c % 16)·x + 16·(c / 16)·x. Nothing branches on a coefficient.
+// A product in tiles of 64 bytes, by the bits of the coefficients: c·x is the sum of 02^s·x over the bits s that c has. Columns go in groups of four: the 16 sums of
+// a group's tiles are found once, and then every row takes, for each bit from the top, one sum of each group, and doubles before the next bit. Nothing branches on a
+// coefficient.
+use crate::picks::fill_picks;
 use crate::tables::add_part;
 use crate::tables::add_tile;
 use crate::tables::double_tile;
-use crate::tables::fill_columns;
+use crate::tables::fill_groups;
 use base::shorter;
 use base::wide;
 ghost use mathlib.Core.Path.{_≡_};
-ghost use Prim.Native.Nat.{_+_, _*_, _≤_};
-ghost use lib.ListN.{length};
-ghost use Rattle.base.proofs.Parts.{Blocked, partOf};
+ghost use Prim.Native.Nat.{ℕ, _+_, _*_, _≤_, _<_};
+ghost use lib.ListN.{length, replicate};
+ghost use Rattle.base.specs.Seq.{tabulate};
 ghost use Rattle.blocks.specs.Bytes.{plus};
-ghost use Rattle.kernels.specs.Blocks.{Fits, Rows, Added};
-ghost use Rattle.kernels.specs.Tiling.{multiple, lows, highs, Gathered, spanned, spannedAt};
+ghost use Rattle.kernels.specs.Blocks.{Fits, Added};
+ghost use Rattle.kernels.specs.Tiling.{byBits, Gathered, Reached, Spanned};
 
-// out += a product of at most 8 columns. A table is cleared at each call, so that of few columns is a small one. With 8 bytes to spare the compiler
-// lays it on a boundary of 16 bytes, where loads are faster.
-pub(crate) fn add_narrow(
+// out += a product of at most 32 rows and 32 columns. Doubling the zeros of the first tile changes nothing; it makes the compiler lay the table on a boundary
+// of 16 bytes, so that a load from it is part of a sum.
+pub(crate) fn add_tiled(
     out: &mut [u8],
     rows: usize,
     b: usize,
@@ -26,34 +28,29 @@ pub(crate) fn add_narrow(
     stride: usize,
 )
     requires { ⌜ Fits rows b stride (now places) (length (now src)) (length (now coeffs)) (length (now out)) ⌝ }
-    requires { ⌜ length (now places) ≤ 8 ⌝ }
+    requires { ⌜ (rows ≤ 32) × (length (now places) ≤ 32) ⌝ }
     ensures { λ _. ⌜ Added rows b stride (now (src .entry)) (now (places .entry)) (now (coeffs .entry)) (now (out .entry)) (now (out .exit)) ⌝ }
 {
-    let mut table = [0u8; 8200];
-    add_tiles(&mut table, out, rows, b, src, places, coeffs, stride);
+    let mut table = [0u8; 8192];
+    double_tile(&mut table[..64usize]);
+    let mut picks = [0u8; 2048];
+    add_tiles(
+        &mut table,
+        &mut picks,
+        out,
+        rows,
+        b,
+        src,
+        places,
+        coeffs,
+        stride,
+    );
 }
 
-// out += a product of at most 32 columns.
-pub(crate) fn add_wide(
-    out: &mut [u8],
-    rows: usize,
-    b: usize,
-    src: &[u8],
-    places: &[u8],
-    coeffs: &[u8],
-    stride: usize,
-)
-    requires { ⌜ Fits rows b stride (now places) (length (now src)) (length (now coeffs)) (length (now out)) ⌝ }
-    requires { ⌜ length (now places) ≤ 32 ⌝ }
-    ensures { λ _. ⌜ Added rows b stride (now (src .entry)) (now (places .entry)) (now (coeffs .entry)) (now (out .entry)) (now (out .exit)) ⌝ }
-{
-    let mut table = [0u8; 32776];
-    add_tiles(&mut table, out, rows, b, src, places, coeffs, stride);
-}
-
-// out += the product, tile by tile. The table has room for every column's multiples.
+// out += the product, tile by tile. The table has room for every group's sums.
 fn add_tiles(
     table: &mut [u8],
+    picks: &mut [u8],
     out: &mut [u8],
     rows: usize,
     b: usize,
@@ -63,20 +60,22 @@ fn add_tiles(
     stride: usize,
 )
     requires { ⌜ Fits rows b stride (now places) (length (now src)) (length (now coeffs)) (length (now out)) ⌝ }
-    requires { ⌜ length (now places) * 1024 ≤ length (now table) ⌝ }
+    requires { ⌜ (rows ≤ 32) × (length (now places) ≤ 32) ⌝ }
+    requires { ⌜ (8192 ≤ length (now table)) × (now picks ≡ replicate 2048 0) ⌝ }
     ensures { λ _. ⌜ Added rows b stride (now (src .entry)) (now (places .entry)) (now (coeffs .entry)) (now (out .entry)) (now (out .exit)) ⌝ }
 {
-    let width = places.len();
+    fill_picks(picks, rows, places.len(), coeffs, stride);
+    let groups = (places.len() + 3) / 4;
     let mut at = 0;
     while at < b {
         let w = shorter(64, b - at);
-        fill_columns(table, b, at, w, src, places);
-        add_tile_rows(out, rows, b, at, w, table, width, coeffs, stride);
+        fill_groups(table, groups, b, at, w, src, places);
+        add_tile_rows(out, rows, b, at, w, table, groups, picks);
         at += w;
     }
 }
 
-// To the w bytes from `at` on of each row of out, their sum of the table's multiples is added.
+// To the w bytes from `at` on of each row of out, their sum of the tables' entries is added.
 fn add_tile_rows(
     out: &mut [u8],
     rows: usize,
@@ -84,76 +83,50 @@ fn add_tile_rows(
     at: usize,
     w: usize,
     table: &[u8],
-    width: usize,
-    coeffs: &[u8],
-    stride: usize,
+    groups: usize,
+    picks: &[u8],
 )
-    requires { ⌜ length (now out) ≡ rows * b ⌝ }
-    requires { ⌜ Rows rows width stride (length (now coeffs)) ⌝ }
-    requires { ⌜ (at + w ≤ b) × (width * 1024 ≤ length (now table)) ⌝ }
-    ensures { λ _. ⌜ Blocked b rows (spannedAt b at w stride width (now (table .entry)) (now (coeffs .entry)) (now (out .entry))) rows (now (out .entry)) (now (out .exit)) ⌝ }
+    requires { ⌜ (length (now out) ≡ rows * b) × (at + w ≤ b) × (w ≤ 64) × (rows ≤ 32) ⌝ }
+    requires { ⌜ ((i s : ℕ) → i < rows → s < 8 → Reached groups (s * 32 + i) (now table) (now picks)) ⌝ }
+    ensures { λ _. ⌜ Spanned b at w (λ i. byBits groups (now (table .entry)) (now (picks .entry)) i 8) rows (now (out .entry)) (now (out .exit)) ⌝ }
 {
     let mut i = 0;
     while i < rows {
-        let start = i * b;
-        let end = start + b;
-        let row = i * stride;
-        let stop = row + width;
-        add_row(&mut out[start..end], at, w, table, &coeffs[row..stop]);
+        let start = i * b + at;
+        let end = start + w;
+        add_row(&mut out[start..end], table, groups, picks, i);
         i += 1;
     }
 }
 
-// To the w bytes from `at` on of a row, its sum of the table's multiples is added.
-fn add_row(dst: &mut [u8], at: usize, w: usize, table: &[u8], coeffs: &[u8])
-    requires { ⌜ at + w ≤ length (now dst) ⌝ }
-    requires { ⌜ length (now coeffs) * 1024 ≤ length (now table) ⌝ }
-    ensures { λ _. ⌜ now (dst .exit) ≡ spanned at w (now (table .entry)) (now (coeffs .entry)) (now (dst .entry)) ⌝ }
+// To at most 64 bytes of row i, their sum of the tables' entries is added.
+fn add_row(dst: &mut [u8], table: &[u8], groups: usize, picks: &[u8], i: usize)
+    requires { ⌜ i < 32 ⌝ }
+    requires { ⌜ ((s : ℕ) → s < 8 → Reached groups (s * 32 + i) (now table) (now picks)) ⌝ }
+    ensures { λ _. ⌜ now (dst .exit) ≡ plus (now (dst .entry)) (tabulate 64 (byBits groups (now (table .entry)) (now (picks .entry)) i 8)) ⌝ }
 {
-    let end = at + w;
-    let mut low = [0u8; 64];
-    let mut high = [0u8; 64];
-    sum_multiples(&mut low, &mut high, table, coeffs);
-    times_16(&mut high);
-    add_tile(&mut low, &high);
-    add_part(&mut dst[at..end], &low);
-}
-
-// low += the multiples that c % 16 names, high += those that c / 16 names, for each coefficient c one of its column's.
-fn sum_multiples(low: &mut [u8], high: &mut [u8], table: &[u8], coeffs: &[u8])
-    requires { ⌜ (length (now low) ≡ 64) × (length (now high) ≡ 64) ⌝ }
-    requires { ⌜ length (now coeffs) * 1024 ≤ length (now table) ⌝ }
-    ensures { λ _. ⌜ Gathered (length (now (coeffs .entry))) (now (table .entry)) (lows (now (coeffs .entry))) (now (low .entry)) (now (low .exit)) ⌝ }
-    ensures { λ _. ⌜ Gathered (length (now (coeffs .entry))) (now (table .entry)) (highs (now (coeffs .entry))) (now (high .entry)) (now (high .exit)) ⌝ }
-{
-    let count = coeffs.len();
-    let mut j = 0;
-    while j < count {
-        let c = wide(coeffs[j]);
-        add_entry(low, table, j * 16 + c % 16);
-        add_entry(high, table, j * 16 + c / 16);
-        j += 1;
+    let mut sum = [0u8; 64];
+    let mut s = 0;
+    while s < 8 {
+        double_tile(&mut sum);
+        add_picked(&mut sum, table, groups, picks, s * 32 + i);
+        s += 1;
     }
+    add_part(dst, &sum);
 }
 
-// sum += tile n of the table.
-fn add_entry(sum: &mut [u8], table: &[u8], n: usize)
-    requires { ⌜ length (now sum) ≡ 64 ⌝ }
-    requires { ⌜ n * 64 + 64 ≤ length (now table) ⌝ }
-    ensures { λ _. ⌜ now (sum .exit) ≡ plus (now (sum .entry)) (partOf 64 n (now (table .entry))) ⌝ }
+// sum += the entry of each group that its pick at place q names.
+fn add_picked(sum: &mut [u8], table: &[u8], groups: usize, picks: &[u8], q: usize)
+    requires { ⌜ (length (now sum) ≡ 64) × (q < 256) ⌝ }
+    requires { ⌜ Reached groups q (now table) (now picks) ⌝ }
+    ensures { λ _. ⌜ Gathered groups (now (table .entry)) (now (picks .entry)) q (now (sum .entry)) (now (sum .exit)) ⌝ }
 {
-    let at = n * 64;
-    let end = at + 64;
-    add_tile(sum, &table[at..end]);
-}
-
-// x := 16·x
-fn times_16(x: &mut [u8])
-    requires { ⌜ length (now x) ≡ 64 ⌝ }
-    ensures { λ _. ⌜ now (x .exit) ≡ multiple 16 (now (x .entry)) ⌝ }
-{
-    double_tile(x);
-    double_tile(x);
-    double_tile(x);
-    double_tile(x);
+    let mut g = 0;
+    while g < groups {
+        let n = g * 16 + wide(picks[g * 256 + q]);
+        let at = n * 64;
+        let end = at + 64;
+        add_tile(sum, &table[at..end]);
+        g += 1;
+    }
 }

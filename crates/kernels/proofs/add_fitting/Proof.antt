@@ -15,8 +15,8 @@ same-length c = search needs
 returns : tie.Need-returns
 returns c = search needs
 
-add-narrow-requires : tie.Need-add-narrow-requires
-add-narrow-requires c κs = search needs
+add-tiled-requires : tie.Need-add-tiled-requires
+add-tiled-requires c κs = (c .before .before .before .before .before .before .before .pre, c .before .before .prefers-rows .ensures (c .before .if1 .left))
 
 same-length-2 : tie.Need-same-length-2
 same-length-2 c = search needs
@@ -24,26 +24,6 @@ same-length-2 c = search needs
 returns-2 : tie.Need-returns-2
 returns-2 c = search needs
 
-add-wide-requires : tie.Need-add-wide-requires
-add-wide-requires c κs = (c .before .before .before .before .before .before .before .before .pre, c .before .before .before .prefers-rows .ensures (c .before .before .if1 .left))
-
-same-length-3 : tie.Need-same-length-3
-same-length-3 c = search needs
-
-returns-3 : tie.Need-returns-3
-returns-3 c = search needs
-
 pub add-fitting-spec : {M : Type 1} → statement M
 add-fitting-spec =
-    tie.close
-    (tie.spec
-    prefers-rows-requires
-    add-rows-requires
-    same-length
-    returns
-    add-narrow-requires
-    same-length-2
-    returns-2
-    add-wide-requires
-    same-length-3
-    returns-3)
+    tie.close (tie.spec prefers-rows-requires add-rows-requires same-length returns add-tiled-requires same-length-2 returns-2)

@@ -1,7 +1,7 @@
 -- A copy of entry m, to which the tile is added. Assumes nothing.
 use mathlib.Core.Path.{refl}
 use borrow.Author.Needs.{needs}
-use Rattle.kernels.proofs.Multiples.{sum-is}
+use Rattle.kernels.proofs.Choices.{sum-is}
 use Rattle.kernels.proofs.tables.set_sum.Statement.{statement}
 use Rattle.kernels.proofs.tables.set_sum.Tie as tie
 

@@ -1,77 +1,95 @@
--- The two sums, the second times 16, are added to the span. Assumes nothing.
+-- After s turns the tile holds what the first s bits give. Assumes nothing.
+use mathlib.Core.Path.{_≡_, sym, ap, _∙_}
+use Prim.Native.Nat.{ℕ, _-_, _≤_}
 use denote.Ref.{now}
+use native.Mathlib.Omega.{arith}
 use borrow.Author.Needs.{needs}
-use Rattle.kernels.proofs.Spans.{row-tile, spanned-is}
+use lib.ListN.{length}
+use Rattle.base.specs.Seq.{tabulate}
+use Rattle.base.proofs.Seq.{length-tabulate}
+use Rattle.blocks.specs.Bytes.{plus}
+use Rattle.kernels.specs.Tiling.{byBits}
+use Rattle.kernels.proofs.Spans.{bits-none, bits-more}
 use Rattle.kernels.proofs.tiles.add_row.Statement.{statement}
 use Rattle.kernels.proofs.tiles.add_row.Tie as tie
 
-add-end : tie.Need-add-end
-add-end c = search needs
+abbrev Inv-loop : tie.InvT-loop
+Inv-loop dst table groups picks i sum₀ s₀ sum s = (s ≤ 8) × (sum ≡ tabulate 64 (byBits groups table picks i s))
 
-slice-aggregate-sum-multiples : tie.Need-slice-aggregate-sum-multiples
-slice-aggregate-sum-multiples c = search needs
+abbrev μ-loop : tie.MeasureT-loop
+μ-loop dst table groups picks i sum₀ s₀ sum s = 8 - s
 
-slice-aggregate-sum-multiples-2 : tie.Need-slice-aggregate-sum-multiples-2
-slice-aggregate-sum-multiples-2 c = search needs
+loop-holds : tie.Need-loop-holds Inv-loop μ-loop
+loop-holds c = (omega arith, bits-none _ _ _ _)
 
-sum-multiples-requires : tie.Need-sum-multiples-requires
-sum-multiples-requires c κs = search needs
+-- the local tile keeps its 64 bytes
+full : (c : tie.At-loop Inv-loop μ-loop) → length (c .loop .sum) ≡ 64
+full c = ap length (c .loop .inv .1) ∙ length-tabulate 64 _
 
-slice-aggregate-times-16 : tie.Need-slice-aggregate-times-16
-slice-aggregate-times-16 c = search needs
+slice-aggregate-double-tile : tie.Need-slice-aggregate-double-tile Inv-loop μ-loop
+slice-aggregate-double-tile c = sym (full (c .before .before))
 
-times-16-requires : tie.Need-times-16-requires
-times-16-requires c κs = search needs
+double-tile-requires : tie.Need-double-tile-requires Inv-loop μ-loop
+double-tile-requires c κs = full (c .before .before)
 
-slice-aggregate-add-tile : tie.Need-slice-aggregate-add-tile
-slice-aggregate-add-tile c = search needs
+slice-aggregate-add-picked : tie.Need-slice-aggregate-add-picked Inv-loop μ-loop
+slice-aggregate-add-picked c = search needs
 
-slice-aggregate-add-tile-2 : tie.Need-slice-aggregate-add-tile-2
-slice-aggregate-add-tile-2 c = search needs
+mul-add-picked : tie.Need-mul-add-picked Inv-loop μ-loop
+mul-add-picked c = search needs
 
-add-tile-requires : tie.Need-add-tile-requires
-add-tile-requires c κs = search needs
+add-add-picked : tie.Need-add-add-picked Inv-loop μ-loop
+add-add-picked c = search needs
 
-sub-add-part : tie.Need-sub-add-part
-sub-add-part c = search needs
+add-picked-requires : tie.Need-add-picked-requires Inv-loop μ-loop
+add-picked-requires c κs =
+    let s = c .before .before .before .before .before .before .before .before .before in
+    let l = c .before .before .before .before .before .loop in
+    ((c .before .before .double-tile .kept .0 ∙ full (c .before .before .before .before .before), omega arith), s .pre .1 (l .s) (omega arith))
 
-part-add-part-start : tie.Need-part-add-part-start
-part-add-part-start c = search needs
+add-s : tie.Need-add-s Inv-loop μ-loop
+add-s c = search needs
 
-part-add-part-end : tie.Need-part-add-part-end
-part-add-part-end c = search needs
+loop-less : tie.Need-loop-less Inv-loop μ-loop
+loop-less c = search needs
 
-slice-aggregate-add-part : tie.Need-slice-aggregate-add-part
-slice-aggregate-add-part c = search needs
+loop-again : tie.Need-loop-again Inv-loop μ-loop
+loop-again c =
+    let l = c .before .before .before .before .before .before .before .loop in
+    (omega arith, bits-more _ _ _ _ (l .s) _ _ _ (l .inv .1) (c .before .before .before .before .double-tile .ensures) (c .before .add-picked .ensures))
 
-add-part-requires : tie.Need-add-part-requires
+slice-aggregate-add-part : tie.Need-slice-aggregate-add-part Inv-loop μ-loop
+slice-aggregate-add-part c = sym (full (c .before .before .before))
+
+add-part-requires : tie.Need-add-part-requires Inv-loop μ-loop
 add-part-requires c κs = search needs
 
-same-length : tie.Need-same-length
+same-length : tie.Need-same-length Inv-loop μ-loop
 same-length c = search needs
 
-returns : tie.Need-returns
+returns : tie.Need-returns Inv-loop μ-loop
 returns c =
-    let s = c .before .before .before .before .before .before .before .before .before .before .before .before .before .before .before .before .before .before .before .before .args in
-    spanned-is (s .at) (s .w) (now (s .table)) (now (s .coeffs)) (now (s .dst)) _ _ (c .before .before .add-part .ensures)
-    (row-tile _ _ _ _ _ _ (c .before .before .before .before .before .before .before .before .before .before .before .before .before .before .sum-multiples .ensures .0) (c .before .before .before .before .before .before .before .before .before .before .before .before .before .before .sum-multiples .ensures .1) (c .before .before .before .before .before .before .before .before .before .before .times-16 .ensures) (c .before .before .before .before .before .before .add-tile .ensures))
+    let l = c .before .before .before .before .before .before .loop in
+    let s = c .before .before .before .before .before .before .before .before .before .before .args in
+    let all : l .s ≡ 8 = omega arith in
+    c .before .before .add-part .ensures ∙ ap (plus (now (s .dst))) (l .inv .1 ∙ ap (λ (t : ℕ). tabulate 64 (byBits (s .groups) (now (s .table)) (now (s .picks)) (s .i) t)) all)
 
 pub add-row-spec : {M : Type 1} → statement M
 add-row-spec =
     tie.close
     (tie.spec
-    add-end
-    slice-aggregate-sum-multiples
-    slice-aggregate-sum-multiples-2
-    sum-multiples-requires
-    slice-aggregate-times-16
-    times-16-requires
-    slice-aggregate-add-tile
-    slice-aggregate-add-tile-2
-    add-tile-requires
-    sub-add-part
-    part-add-part-start
-    part-add-part-end
+    Inv-loop
+    μ-loop
+    loop-holds
+    slice-aggregate-double-tile
+    double-tile-requires
+    slice-aggregate-add-picked
+    mul-add-picked
+    add-add-picked
+    add-picked-requires
+    add-s
+    loop-less
+    loop-again
     slice-aggregate-add-part
     add-part-requires
     same-length

@@ -7,15 +7,23 @@ use borrow.Author.Needs.{needs}
 use lib.ListN.{length}
 use Rattle.base.proofs.Cases.{lt-or}
 use Rattle.kernels.proofs.RowByRow.{rowAt}
-use Rattle.kernels.proofs.Spans.{Tiled, tiled-none, tiled-more, tiled-all}
+use Rattle.kernels.proofs.Spans.{all-reached, row-product, Tiled, tiled-none, tiled-more, tiled-all}
 use Rattle.kernels.proofs.tiles.add_tiles.Statement.{statement}
 use Rattle.kernels.proofs.tiles.add_tiles.Tie as tie
 
 abbrev Inv-loop : tie.InvT-loop
-Inv-loop table₀ out₀ rows b src places coeffs stride width at₀ table out at = (at ≤ b) × (length table ≡ length table₀) × Tiled b rows (rowAt b stride src places coeffs out₀) at out₀ out
+Inv-loop table₀ picks out₀ rows b src places coeffs stride groups at₀ table out at = (at ≤ b) × (length table ≡ length table₀) × Tiled b rows (rowAt b stride src places coeffs out₀) at out₀ out
 
 abbrev μ-loop : tie.MeasureT-loop
-μ-loop table₀ out₀ rows b src places coeffs stride width at₀ table out at = b - at
+μ-loop table₀ picks out₀ rows b src places coeffs stride groups at₀ table out at = b - at
+
+fill-picks-requires : tie.Need-fill-picks-requires Inv-loop μ-loop
+fill-picks-requires c κs =
+    let s = c .before .before .before .before .before .before .before in
+    (s .pre .1 .1 .1, (s .pre .1 .0, s .pre .0 .row))
+
+add-groups : tie.Need-add-groups Inv-loop μ-loop
+add-groups c = search needs
 
 loop-holds : tie.Need-loop-holds Inv-loop μ-loop
 loop-holds c = (omega arith, refl, tiled-none _ _ _ _)
@@ -26,41 +34,52 @@ sub-shorter c = search needs
 shorter-requires : tie.Need-shorter-requires Inv-loop μ-loop
 shorter-requires c κs = search needs
 
-fill-columns-requires : tie.Need-fill-columns-requires Inv-loop μ-loop
-fill-columns-requires c κs = (c .before .before .before .before .before .before .before .before .before .pre .0 .block, ((omega arith, omega arith), omega (arith, c .before .before .before .loop .inv .1)))
+fill-groups-requires : tie.Need-fill-groups-requires Inv-loop μ-loop
+fill-groups-requires c κs =
+    let s = c .before .before .before .before .before .before .before .before .before .before .before .before .before .before in
+    (s .pre .0 .block, ((omega arith, omega arith), (omega arith, omega (arith, c .before .before .before .loop .inv .1))))
 
 add-tile-rows-requires : tie.Need-add-tile-rows-requires Inv-loop μ-loop
 add-tile-rows-requires c κs =
-    let s = c .before .before .before .before .before .before .before .before .before .before .before .before .before .before in
-    let l = c .before .before .before .before .before .before .before .before .loop in
-    (l .inv .2 .same ∙ s .pre .0 .room, (s .pre .0 .row, (omega arith, omega (arith, c .before .before .before .before .fill-columns .ensures .same, l .inv .1))))
+    let s = c .before .before .before .before .before .before .before .before .before .before .before .before .before .before .before .before .before .before .before .before in
+    let l = c .before .before .before .before .before .before .before .before .before .loop in
+    let t = c .before .before .before .before .before .fill-groups .ensures in (
+      (l .inv .2 .same ∙ s .pre .0 .room, omega arith, omega arith, s .pre .1 .0 .0),
+      all-reached _ _ _ _ _ _ (s .pre .1 .0 .1) (omega (arith, t .same, l .inv .1)) (c .before .before .before .before .before .before .before .before .before .before .before .before .fill-picks .ensures),
+    )
 
 add-at : tie.Need-add-at Inv-loop μ-loop
 add-at c = search needs
 
 loop-less : tie.Need-loop-less Inv-loop μ-loop
 loop-less c =
-    let r = c .before .before .before .before .before .before .before .before .before .shorter in
+    let r = c .before .before .before .before .before .before .before .before .before .before .shorter in
     ⊎-elim (λ (lt : r .result < 64). omega (arith, r .ensures .1 .1 lt)) (λ (le : 64 ≤ r .result). omega arith) (lt-or (r .result) 64)
 
 loop-again : tie.Need-loop-again Inv-loop μ-loop
 loop-again c =
-    let l = c .before .before .before .before .before .before .before .before .before .before .before .loop in
-    let r = c .before .before .before .before .before .before .before .before .before .shorter in (
+    let s = c .before .before .before .before .before .before .before .before .before .before .before .before .before .before .before .before .before .before .before .before .before .before .before in
+    let l = c .before .before .before .before .before .before .before .before .before .before .before .before .loop in
+    let t = c .before .before .before .before .before .before .before .before .fill-groups .ensures in (
       omega arith,
-      c .before .before .before .before .before .before .before .fill-columns .ensures .same ∙ l .inv .1,
-      tiled-more _ (l .at) (r .result) _ _ _ _ _ _ (c .before .before .before .before .before .before .before .before .before .before .before .before .before .before .before .before .before .pre .0) (λ i. omega (arith, c .before .before .before .before .before .before .before .before .before .before .before .before .shared-slice-known3 .given i)) (l .table) _ (l .out) _
-          (omega arith) (omega arith) (c .before .before .before .before .before .before .before .fill-columns .ensures) (l .inv .2) (c .before .before .add-tile-rows .ensures),
+      t .same ∙ l .inv .1,
+      tiled-more _ (l .at) _ _ _ _ _ _ _ _ (l .out) _ (omega arith)
+          (row-product _ _ _ _ _ _ _ _ _ _ _ (λ i. omega (arith, c .before .before .before .before .before .before .before .before .before .before .before .before .before .before .before .before .before .shared-slice-known3 .given i)) (s .pre .1 .0 .1) t
+          (c .before .before .before .before .before .before .before .before .before .before .before .before .before .before .before .fill-picks .ensures))
+          (l .inv .2) (c .before .before .add-tile-rows .ensures),
     )
 
 same-length : tie.Need-same-length Inv-loop μ-loop
 same-length c = c .before .loop .inv .1
 
 same-length-2 : tie.Need-same-length-2 Inv-loop μ-loop
-same-length-2 c = c .before .loop .inv .2 .same
+same-length-2 c = search needs
+
+same-length-3 : tie.Need-same-length-3 Inv-loop μ-loop
+same-length-3 c = c .before .loop .inv .2 .same
 
 returns : tie.Need-returns Inv-loop μ-loop
-returns c = tiled-all _ _ _ (c .before .loop .at) _ _ _ _ _ (c .before .before .before .before .before .before .before .pre .0) (omega arith) (c .before .loop .inv .2)
+returns c = tiled-all _ _ _ (c .before .loop .at) _ _ _ _ _ (c .before .before .before .before .before .before .before .before .before .before .before .before .pre .0) (omega arith) (c .before .loop .inv .2)
 
 pub add-tiles-spec : {M : Type 1} → statement M
 add-tiles-spec =
@@ -68,14 +87,17 @@ add-tiles-spec =
     (tie.spec
     Inv-loop
     μ-loop
+    fill-picks-requires
+    add-groups
     loop-holds
     sub-shorter
     shorter-requires
-    fill-columns-requires
+    fill-groups-requires
     add-tile-rows-requires
     add-at
     loop-less
     loop-again
     same-length
     same-length-2
+    same-length-3
     returns)
