@@ -152,6 +152,9 @@ fn prefers_rows(rows: usize, size: usize, width: usize) -> bool
     if rows < 2 {
         return true;
     }
+    if width < 3 {
+        return size <= 192;
+    }
     size <= 128
 }
 

@@ -1,4 +1,4 @@
--- Each early answer is yes; at the last the rows and columns were found to be at most 32. Assumes nothing.
+-- Each early answer is yes; at the last two the rows and columns were found to be at most 32. Assumes nothing.
 use mathlib.Core.Bool.{true≢false}
 use native.Mathlib.Omega.{arith}
 use Rattle.kernels.proofs.prefers_rows.Statement.{statement}
@@ -16,5 +16,8 @@ returns-3 c = λ e. absurd (true≢false e)
 returns-4 : tie.Need-returns-4
 returns-4 c = λ e. (omega arith, omega arith)
 
+returns-5 : tie.Need-returns-5
+returns-5 c = λ e. (omega arith, omega arith)
+
 pub prefers-rows-spec : {M : Type 1} → statement M
-prefers-rows-spec = tie.close (tie.spec returns returns-2 returns-3 returns-4)
+prefers-rows-spec = tie.close (tie.spec returns returns-2 returns-3 returns-4 returns-5)
