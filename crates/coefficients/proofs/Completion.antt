@@ -1,8 +1,8 @@
--- Completion rows: the inverse takes what the remaining coefficients give at some nodes to what they give at others, and what the leading ones give
+-- Completion rows: the gains take what the remaining coefficients give at some nodes to what they give at others, and what the leading ones give
 -- there goes the same way and is counted twice, that is not at all. Assumes nothing.
 use mathlib.Core.Path.{_≡_, refl, sym, ap, ap₂, _∙_, subst, subst₂}
-use mathlib.Core.List.{List}
-use Prim.Native.Nat.{ℕ, suc, _+_, _*_, _^_, _≤_, _<_}
+use mathlib.Core.List.{List, _++_}
+use Prim.Native.Nat.{ℕ, suc, _*_, _^_, _≤_, _<_}
 use native.Mathlib.Nat.{zero-add, le-refl}
 use native.Mathlib.Omega.{arith}
 use lib.ListN.{length, getD, take}
@@ -10,66 +10,34 @@ use Rattle.base.specs.Seq.{cell}
 use Rattle.field.specs.Field.{add, mul, pow}
 use Rattle.field.specs.FiniteSum.{sum}
 use Rattle.field.proofs.Addition.{add-assoc, add-cancel}
-use Rattle.field.proofs.Multiplication.{mul-byte, mul-comm, mul-assoc, mul-add-left, mul-add-right}
-use Rattle.field.proofs.FiniteSum.{sum-zero, sum-byte, sum-ext, sum-add, mul-sum, sum-mul, sum-exchange}
+use Rattle.field.proofs.Multiplication.{mul-comm, mul-add-left, mul-add-right}
+use Rattle.field.proofs.FiniteSum.{sum-ext, sum-add}
 use Rattle.interpolation.specs.Polynomial.{evaluate, Points}
-use Rattle.matrix.specs.Matrix.{IsInverse}
+use Rattle.interpolation.proofs.Lagrange.{associate}
 use Rattle.params.specs.Nodes.{size}
 use Rattle.code.specs.Code.{point}
-use Rattle.kernels.specs.Blocks.{Multiplied, Added}
+use Rattle.kernels.specs.Blocks.{Added}
 use Rattle.coefficients.specs.Coefficients.{listed, pointAt, inOrder, powerRows, Roomy, ExtendsPost}
-use Rattle.coefficients.specs.Working.{pointsOf, remaining, Carries, Carriable, Shared, Sharable, Completed, Completable}
-use Rattle.coefficients.proofs.Laws.{size-most, length-listed, length-powerRows, powerRows-at, fits-first, product-first}
-use Rattle.coefficients.proofs.Solve.{listed-points, solved}
-
--- the product of a row and a matrix, applied, is the row applied to what the matrix gives
-associate : (k l : ℕ) (a : ℕ → ℕ) (m : ℕ → ℕ → ℕ) (x : ℕ → ℕ)
-    → sum k (λ j. mul (sum l (λ t. mul (a t) (m t j))) (x j)) ≡ sum l (λ t. mul (a t) (sum k (λ j. mul (m t j) (x j))))
-associate k l a m x =
-    sum-ext k _ _ (λ j hj. sum-mul l (x j) (λ t. mul (a t) (m t j)) ∙ sum-ext l _ _ (λ t ht. mul-assoc (a t) (m t j) (x j)))
-    ∙ sum-exchange k l (λ j t. mul (a t) (mul (m t j) (x j)))
-    ∙ sum-ext l _ _ (λ t ht. sym (mul-sum k (a t) (λ j. mul (m t j) (x j))))
-
--- ---- gains
-
--- the targets' powers times the inverse, both as the code lends them
-pub carries : (e : ℕ) (at targets inverse powers lent order old new : List ℕ) → Carriable at targets old
-    → IsInverse (length at) (powerRows e (length at) at) inverse → lent ≡ inverse → powers ≡ powerRows e (length at) targets → order ≡ inOrder
-    → Multiplied (length targets) (length at) (length at) lent (take (length at) order) powers old new → Carries e at targets new
-carries e at targets inverse powers lent order old new can inv hl hp ho made =
-    let m = length at in
-    let count = length targets in
-    record {
-      takes = λ v hv t ht.
-          sum-ext m _ _
-          (λ j hj. mul-comm (v j) _ ∙ ap (mul (pow (point (getD targets t 0)) (e + suc j)))
-          (solved e at inverse inv v (λ o. remaining e m v (getD at o 0)) (λ j hj. hv j) (λ i hi. sum-byte m _ (λ j hj. mul-byte (v j) _)) (λ i hi. refl) j hj))
-          ∙ sym (associate m m (λ j. pow (point (getD targets t 0)) (e + suc j)) (cell m inverse) (λ o. remaining e m v (getD at o 0)))
-          ∙ sum-ext m _ _
-          (λ o ho′.
-          ap (λ (q : ℕ). mul q (remaining e m v (getD at o 0)))
-          (sum-ext m _ _
-          (λ j hj. ap₂ mul (sym (powerRows-at e m targets t j ht hj) ∙ ap (λ (l : List ℕ). cell m l t j) (sym hp)) (ap (λ (l : List ℕ). cell m l j o) (sym hl)))
-          ∙ sym (product-first order ho m (can .most) m m lent powers t o)
-          ∙ sym
-          (made .written
-          (fits-first order ho m (can .most) count m m (length lent) (length powers) (length old) (can .room) (le-refl m)
-          (omega (arith, ap length hp ∙ length-powerRows e m targets)) (omega (arith, ap length hl ∙ inv .count))) t o ht ho′)));
-    }
+use Rattle.coefficients.specs.Working.{pointsOf, remaining, Carries, Shared, Sharable, Completed, Completable}
+use Rattle.coefficients.proofs.Laws.{buffer-front, size-most, length-listed, length-powerRows, powerRows-at, fits-first, product-first}
+use Rattle.coefficients.proofs.Solve.{listed-points}
 
 -- ---- the share of the leading coefficients
 
-pub shared : (rows e : ℕ) (at gains powers order old new : List ℕ) → Sharable rows e at gains old → powers ≡ powerRows 0 e at → order ≡ inOrder
-    → Added rows e (length at) powers (take (length at) order) gains old new → Shared rows e at gains old new
-shared rows e at gains powers order old new can hp ho made =
+-- by one product; the powers stand at the front of a buffer
+pub shared : (rows e : ℕ) (at gains powers rest order old new : List ℕ) → Sharable rows e at gains old → powers ≡ powerRows 0 e at → order ≡ inOrder
+    → Added rows e (length at) (take (length at * e) (powers ++ rest)) (take (length at) order) gains old new → Shared rows e at gains old new
+shared rows e at gains powers rest order old new can told ho made =
     let m = length at in
+    let front = take (m * e) (powers ++ rest) in
+    let hp : front ≡ powerRows 0 e at = buffer-front (m * e) powers rest (ap length told ∙ length-powerRows 0 e at) ∙ told in
     record {
       entries = λ t j ht hj.
           made .written
-          (fits-first order ho m (can .most) rows e m (length powers) (length gains) (length old) (can .room) (le-refl m) (omega (arith, can .gains-room))
+          (fits-first order ho m (can .most) rows e m (length front) (length gains) (length old) (can .room) (le-refl m) (omega (arith, can .gains-room))
           (omega (arith, ap length hp ∙ length-powerRows 0 e at))) t j ht hj
           ∙ ap (add (cell e old t j))
-          (product-first order ho m (can .most) e m powers gains t j
+          (product-first order ho m (can .most) e m front gains t j
           ∙ sum-ext m _ _
           (λ o ho′.
           ap (mul (cell m gains t o))
@@ -89,21 +57,6 @@ leading-row e nodes x t ht =
     sum-ext e _ _
     (λ j hj.
     ap (λ (q : ℕ). mul q (x j)) (powerRows-at 0 e nodes t j ht hj ∙ ap (pow (point (getD nodes t 0))) (zero-add (suc j))) ∙ mul-comm _ (x j))
-
-sum-none : (n : ℕ) (f : ℕ → ℕ) → n ≡ 0 → sum n f ≡ 0
-sum-none n f none = ap (λ (k : ℕ). sum k f) none ∙ sum-zero f
-
--- with no value to go by, the leading coefficients are all
-pub completed-none : (e : ℕ) (at targets leading gains : List ℕ) → length at ≡ 0 → leading ≡ powerRows 0 e targets
-    → Completed e at targets leading gains
-unfolding evaluate
-completed-none e at targets leading gains none hl =
-    record {
-      takes = λ x v hv t ht.
-          ap₂ add
-          (sym (ap (λ (l : List ℕ). sum e (λ j. mul (cell e l t j) (x j))) hl ∙ leading-row e targets x t ht))
-          (sum-none (length at) _ none ∙ sym (sum-none (length at) _ none));
-    }
 
 -- L for what the leading coefficients give at the target, G for what they give at the other nodes and R for the rest: (L + G) + (G + R) = L + R
 pub completed : (e : ℕ) (at targets old leading gains : List ℕ) → old ≡ powerRows 0 e targets → Carries e at targets gains
@@ -156,7 +109,7 @@ module _ (e at targets m count : ℕ) (known wanted leading gains : List ℕ) (l
         e-most = e-most;
         most = omega (arith, known-length, lent .at-size, size-most at (lent .at-word));
         points = subst (λ (l : List ℕ). Points (pointsOf l)) (sym (lent .known-is)) (listed-points at);
-        targets-most = omega (arith, wanted-length, lent .targets-size, size-most targets (lent .targets-word));
+        targets-points = subst (λ (l : List ℕ). Points (pointsOf l)) (sym (lent .wanted-is)) (listed-points targets);
         leading-room = leading-room ∙ ap (λ (k : ℕ). k * e) (sym wanted-length);
         gains-room = gains-room ∙ ap₂ (λ (j k : ℕ). j * k) (sym wanted-length) (sym known-length);
       }

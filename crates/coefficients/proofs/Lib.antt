@@ -1,4 +1,7 @@
 pub mod Laws
 mod Rows
 mod Solve
+mod Lagrange
+mod Gains
 mod Completion
+mod Shares

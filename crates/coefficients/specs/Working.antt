@@ -1,32 +1,131 @@
 -- What the private functions compute, over lists of nodes. No exported contract rests on these names. Assumes nothing.
 use mathlib.Core.Path.{_≡_}
+use mathlib.Core.Bool.{Bool, true, false}
 use mathlib.Core.List.{List}
 use Prim.Native.Nat.{ℕ, suc, _+_, _*_, _≤_, _<_}
+use lib.Dec.{eqb}
 use lib.ListN.{length, getD}
-use Rattle.base.specs.Seq.{tabulate, cell}
+use Rattle.base.specs.Seq.{tabulate, cell, blocks}
 use Rattle.field.specs.Field.{IsByte, add, mul, pow}
 use Rattle.field.specs.FiniteSum.{sum}
-use Rattle.interpolation.specs.Polynomial.{evaluate, Points}
+use Rattle.interpolation.specs.Polynomial.{evaluate, value, Points}
+use Rattle.interpolation.specs.Lagrange.{apart, gain}
 use Rattle.code.specs.Code.{point}
 
 -- c^(e+1), c^(e+2), .., c^(e+m)
 unfoldable pub powersFrom : ℕ → ℕ → ℕ → List ℕ
 powersFrom c e m = tabulate m (λ j. pow c (e + suc j))
 
+-- 02^(start + l), 02^(start + 2·l), .., m of them
+unfoldable pub stepsFrom : ℕ → ℕ → ℕ → List ℕ
+stepsFrom l start m = tabulate m (λ j. pow 2 (start + suc j * l))
+
 -- the point of each node of a list
 unfoldable pub pointsOf : List ℕ → List ℕ
 pointsOf nodes = tabulate (length nodes) (λ i. point (getD nodes i 0))
 
--- what an inverse of rows of powers asks: from 1 to 32 nodes with points that tell a polynomial, and room for the inverse
-pub record Solvable (nodes out : List ℕ) : Type 0 where
-  pub some : 0 < length nodes
+-- ---- from values to coefficients: a polynomial is a list of its coefficients, from the power 0 on, and zeros behind them
+
+-- new is old times z + x
+pub record Widened (x : ℕ) (old new : List ℕ) : Type 0 where
+  pub first : getD new 0 0 ≡ mul x (getD old 0 0)
+  pub next : (j : ℕ) → getD new (suc j) 0 ≡ add (getD old j 0) (mul x (getD old (suc j) 0))
+
+-- p is the product of z + x over the points x of the first d nodes: it begins with z^d and is 0 at these points
+pub record Product (nodes : List ℕ) (d : ℕ) (p : List ℕ) : Type 0 where
+  pub leading : getD p d 0 ≡ 1
+  pub above : (j : ℕ) → d < j → getD p j 0 ≡ 0
+  pub roots : (i : ℕ) → i < d → value p (point (getD nodes i 0)) ≡ 0
+
+-- p is quotient times z + x, and a remainder at the power 0; own is the quotient's value at x
+pub record Divided (x : ℕ) (p quotient : List ℕ) (own : ℕ) : Type 0 where
+  pub next : (j : ℕ) → j < length quotient → getD p (suc j) 0 ≡ add (getD quotient j 0) (mul x (getD quotient (suc j) 0))
+  pub value-own : own ≡ value quotient x
+
+-- column i of the square matrix new is the list times s, and the other columns are those of old
+pub record Column (s i : ℕ) (list old new : List ℕ) : Type 0 where
+  pub written : (j : ℕ) → j < length list → cell (length list) new j i ≡ mul (getD list j 0) s
+  pub kept : (j k : ℕ) → j < length list → k < length list → (k ≡ i → ⊥) → cell (length list) new j k ≡ cell (length list) old j k
+
+-- the value at node t of the polynomial whose coefficients, from the power 1 on, stand in column i of rows, as many as there are nodes
+abbrev pub columnAt : List ℕ → List ℕ → ℕ → ℕ → ℕ
+columnAt nodes rows i t = sum (length nodes) (λ j. mul (cell (length nodes) rows j i) (pow (point (getD nodes t 0)) (suc j)))
+
+-- that polynomial is the basis polynomial of node i: 1 there, and 0 at the others
+pub record BasisColumn (nodes rows : List ℕ) (i : ℕ) : Type 0 where
+  pub own : columnAt nodes rows i i ≡ 1
+  pub others : (t : ℕ) → t < length nodes → (t ≡ i → ⊥) → columnAt nodes rows i t ≡ 0
+
+-- so it is for the first d nodes
+abbrev pub BasisRows : List ℕ → ℕ → List ℕ → Type 0
+BasisRows nodes d rows = (i : ℕ) → i < d → BasisColumn nodes rows i
+
+-- column i has become so, and the other columns are as they were
+pub record BasisPut (nodes : List ℕ) (i : ℕ) (old new : List ℕ) : Type 0 where
+  pub put : BasisColumn nodes new i
+  pub kept : (j k : ℕ) → j < length nodes → k < length nodes → (k ≡ i → ⊥) → cell (length nodes) new j k ≡ cell (length nodes) old j k
+
+-- what basis polynomials ask: at most 32 nodes with points that tell a polynomial, and room for a square matrix
+pub record Readable (nodes rows : List ℕ) : Type 0 where
   pub most : length nodes ≤ 32
-  pub room : length out ≡ length nodes * length nodes
   pub points : Points (pointsOf nodes)
+  pub room : length rows ≡ length nodes * length nodes
 
 -- what the remaining coefficients v of a polynomial, m of them behind e leading ones, give at a node
 abbrev pub remaining : ℕ → ℕ → (ℕ → ℕ) → ℕ → ℕ
 remaining e m v node = sum m (λ j. mul (v j) (pow (point node) (e + suc j)))
+
+-- ---- Lagrange's formula
+
+-- what it asks: at most 32 nodes, with points that tell a polynomial, and at most 32 leading coefficients
+pub record Weighable (e : ℕ) (at : List ℕ) : Type 0 where
+  pub e-most : e ≤ 32
+  pub most : length at ≤ 32
+  pub points : Points (pointsOf at)
+
+-- for each of the first n nodes of `at` the exponent of what its gains are divided by
+pub record Weighed (e : ℕ) (at : List ℕ) (n : ℕ) (weights : List ℕ) : Type 0 where
+  pub room : length at ≤ length weights
+  pub small : (o : ℕ) → o < n → getD weights o 0 < 255
+  pub power : (o : ℕ) → o < n → pow 2 (getD weights o 0) ≡ apart e (pointsOf at) (point (getD at o 0)) (point (getD at o 0))
+
+-- what the value at each node of `at` counts at the target
+unfoldable pub gainRow : ℕ → List ℕ → ℕ → List ℕ
+gainRow e at target = tabulate (length at) (λ o. gain e (pointsOf at) (point (getD at o 0)) (point target))
+
+-- what such a row asks, with the weights found before
+pub record Findable (e : ℕ) (at weights : List ℕ) (target : ℕ) (gains : List ℕ) : Type 0 where
+  pub formula : Weighable e at
+  pub weighed : Weighed e at (length at) weights
+  pub nonzero : point target ≡ 0 → ⊥
+  pub room : length gains ≡ length at
+
+-- a row for each target
+unfoldable pub gainRows : ℕ → List ℕ → List ℕ → List ℕ
+gainRows e at targets =
+    blocks (length at) (length targets) (λ t o. gain e (pointsOf at) (point (getD at o 0)) (point (getD targets t 0)))
+
+-- 01 for yes, 00 for no
+unfoldable pub unit : Bool → ℕ
+unit true = 1
+unit false = 0
+
+-- 01 for equal nodes, 00 for others
+unfoldable pub same : ℕ → ℕ → ℕ
+same x y = unit (eqb x y)
+
+-- the row that counts the value at the target itself, and no other
+unfoldable pub unitRow : List ℕ → ℕ → List ℕ
+unitRow at target = tabulate (length at) (λ o. same (getD at o 0) target)
+
+-- none of the first n nodes of the list is this one
+abbrev pub Missing : ℕ → List ℕ → ℕ → Type 0
+Missing n nodes node = (i : ℕ) → i < n → getD nodes i 0 ≡ node → ⊥
+
+-- whether one of all is
+pub record Listed (nodes : List ℕ) (node : ℕ) (answer : Bool) : Type 0 where
+  pub found : answer ≡ true → (i : ℕ) × (i < length nodes) × (getD nodes i 0 ≡ node)
+  pub missing : answer ≡ false → Missing (length nodes) nodes node
 
 -- the rows take what they give at the nodes of `at` to what they give at the nodes of `targets`
 pub record Carries (e : ℕ) (at targets gains : List ℕ) : Type 0 where
@@ -35,11 +134,9 @@ pub record Carries (e : ℕ) (at targets gains : List ℕ) : Type 0 where
       ≡ sum (length at) (λ o. mul (cell (length at) gains t o) (remaining e (length at) v (getD at o 0)))
 
 -- what such rows ask
-pub record Carriable (at targets gains : List ℕ) : Type 0 where
-  pub some : 0 < length at
-  pub most : length at ≤ 32
-  pub points : Points (pointsOf at)
-  pub targets-most : length targets ≤ 32
+pub record Carriable (e : ℕ) (at targets gains : List ℕ) : Type 0 where
+  pub formula : Weighable e at
+  pub targets-points : Points (pointsOf targets)
   pub room : length gains ≡ length targets * length at
 
 -- each of the rows of e entries has its gains, times the powers 1, .., e of the points of `at`, added
@@ -51,8 +148,18 @@ pub record Shared (rows e : ℕ) (at gains old new : List ℕ) : Type 0 where
 pub record Sharable (rows e : ℕ) (at gains leading : List ℕ) : Type 0 where
   pub most : length at ≤ 32
   pub e-most : e ≤ 32
+  pub points : Points (pointsOf at)
   pub gains-room : length gains ≡ rows * length at
   pub room : length leading ≡ rows * e
+
+-- old with g times the powers 1, 2, .. of x added
+unfoldable pub withPowers : ℕ → ℕ → List ℕ → List ℕ
+withPowers g x old = tabulate (length old) (λ j. add (getD old j 0) (mul g (pow x (suc j))))
+
+-- old with the gains of the first n nodes of `at`, times the powers 1, 2, .. of their points, added
+unfoldable pub withShare : ℕ → List ℕ → List ℕ → List ℕ → List ℕ
+withShare n at gains old =
+    tabulate (length old) (λ j. add (getD old j 0) (sum n (λ o. mul (getD gains o 0) (pow (point (getD at o 0)) (suc j)))))
 
 -- leading coefficients, and the values at the nodes of `at`, are taken to the values at the nodes of `targets`
 pub record Completed (e : ℕ) (at targets leading gains : List ℕ) : Type 0 where
@@ -66,6 +173,6 @@ pub record Completable (e : ℕ) (at targets leading gains : List ℕ) : Type 0 
   pub e-most : e ≤ 32
   pub most : length at ≤ 32
   pub points : Points (pointsOf at)
-  pub targets-most : length targets ≤ 32
+  pub targets-points : Points (pointsOf targets)
   pub leading-room : length leading ≡ length targets * e
   pub gains-room : length gains ≡ length targets * length at

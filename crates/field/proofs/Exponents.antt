@@ -40,6 +40,16 @@ pow-add a (suc d) e =
     ap (pow a) (suc-add d e) ∙ pow-suc a (d + e) ∙ ap (mul a) (pow-add a d e) ∙ sym (mul-assoc a (pow a d) (pow a e))
     ∙ ap (λ (x : ℕ). mul x (pow a e)) (sym (pow-suc a d))
 
+pub pow-pow : (a l e : ℕ) → pow (pow a l) e ≡ pow a (l * e)
+pow-pow a l zero = pow-zero (pow a l) ∙ sym (pow-zero a) ∙ ap (pow a) none
+  where
+    none : 0 ≡ l * 0
+    none = omega arith
+pow-pow a l (suc e) = pow-suc (pow a l) e ∙ ap (mul (pow a l)) (pow-pow a l e) ∙ sym (pow-add a l (l * e)) ∙ ap (pow a) more
+  where
+    more : l + l * e ≡ l * suc e
+    more = omega arith
+
 -- ---- the table of powers of 02
 
 -- n entries from x on, each 02 times the one before
@@ -186,6 +196,22 @@ mul-cancel a b c ha n hb hc p =
 -- no zero divisors
 pub mul-nonzero : (a b : ℕ) → IsByte a → IsByte b → (a ≡ 0 → ⊥) → (b ≡ 0 → ⊥) → mul a b ≡ 0 → ⊥
 mul-nonzero a b ha hb na nb p = nb (mul-cancel a b 0 ha na hb (omega arith) (p ∙ sym (mul-zero-right a)))
+
+pub pow-nonzero : (a e : ℕ) → IsByte a → (a ≡ 0 → ⊥) → pow a e ≡ 0 → ⊥
+pow-nonzero a zero ha n p = omega (arith, pow-zero a)
+pow-nonzero a (suc e) ha n p = mul-nonzero a (pow a e) ha (pow-byte a e) n (pow-nonzero a e ha n) (sym (pow-suc a e) ∙ p)
+
+-- the inverse as a power: a · a^254 = a^255 = 01
+pub inverse-power : (a : ℕ) → IsByte a → (a ≡ 0 → ⊥) → mul a (pow a 254) ≡ 1
+inverse-power a ha n =
+    let g = generated a ha n in
+    sym (pow-suc a 254) ∙ ap (λ (b : ℕ). pow b 255) (sym (g .2)) ∙ pow-pow 2 (g .0) 255 ∙ pow-order-times (g .0)
+
+-- what is multiplied by a nonzero a is what comes out, times this inverse
+pub quotient-unique : (a b c : ℕ) → IsByte a → (a ≡ 0 → ⊥) → IsByte b → mul b a ≡ c → b ≡ mul c (pow a 254)
+quotient-unique a b c ha n hb p =
+    sym (mul-one-right b hb) ∙ ap (mul b) (sym (inverse-power a ha n)) ∙ sym (mul-assoc b a (pow a 254))
+    ∙ ap (λ (k : ℕ). mul k (pow a 254)) p
 
 -- the inverse is determined
 pub inverse-unique : (a b c : ℕ) → IsByte a → Inverse a b → Inverse a c → b ≡ c

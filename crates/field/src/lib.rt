@@ -70,7 +70,7 @@ pub fn powers() -> [u8; 255]
 }
 
 // The table of their exponents.
-fn logs() -> [u8; 256]
+pub fn logs() -> [u8; 256]
     ensures { λ r. ⌜ LogTable r ⌝ }
 {
     log_table::LOGS

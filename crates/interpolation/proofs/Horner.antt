@@ -12,17 +12,21 @@ use Rattle.field.proofs.Addition.{add-byte, add-comm, add-assoc, add-self, add-
 use Rattle.field.proofs.Multiplication.{mul-byte, mul-comm, mul-assoc, mul-add-left, mul-add-right, mul-zero-left, mul-zero-right, mul-one-left}
 use Rattle.field.proofs.Exponents.{pow-suc, mul-cancel, inverse-exists}
 use Rattle.field.proofs.FiniteSum.{sum-ext}
-use Rattle.interpolation.specs.Polynomial.{Points}
-
--- the value at z, by Horner's rule
-pub value : List ℕ → ℕ → ℕ
-value [] z = 0
-value (a ∷ p) z = add a (mul z (value p z))
+use Rattle.interpolation.specs.Polynomial.{value, Points}
 
 pub value-byte : (p : List ℕ) (z : ℕ) → Bytes p → IsByte (value p z)
 unfolding value
 value-byte [] z h = h 0
 value-byte (a ∷ p) z h = add-byte a _ (h 0) (mul-byte z (value p z))
+
+-- only the coefficients count; behind a list's end stand zeros
+value-ext : (p q : List ℕ) (z : ℕ) → ((j : ℕ) → getD p j 0 ≡ getD q j 0) → value p z ≡ value q z
+unfolding value
+value-ext [] [] z h = refl
+value-ext [] (b ∷ q) z h =
+    sym (ap₂ add (sym (h 0)) (ap (mul z) (sym (value-ext [] q z (λ j. h (suc j)))) ∙ mul-zero-right z) ∙ add-zero-right 0)
+value-ext (a ∷ p) [] z h = ap₂ add (h 0) (ap (mul z) (value-ext p [] z (λ j. h (suc j))) ∙ mul-zero-right z) ∙ add-zero-right 0
+value-ext (a ∷ p) (b ∷ q) z h = ap₂ add (h 0) (ap (mul z) (value-ext p q z (λ j. h (suc j))))
 
 -- the value as a sum, with exponents from e + 1 on
 value-sum : (e : ℕ) (p : List ℕ) (z : ℕ)
@@ -54,23 +58,23 @@ sum-value e n v p z l h =
 -- ---- division by z + c
 
 -- the coefficients of r + (z + c)·q
-times : ℕ → ℕ → List ℕ → List ℕ
+pub times : ℕ → ℕ → List ℕ → List ℕ
 times c r [] = r ∷ []
 times c r (a ∷ q) = add r (mul c a) ∷ times c a q
 
-length-times : (c r : ℕ) (q : List ℕ) → length (times c r q) ≡ suc (length q)
+pub length-times : (c r : ℕ) (q : List ℕ) → length (times c r q) ≡ suc (length q)
 unfolding times
 length-times c r [] = refl
 length-times c r (a ∷ q) = ap suc (length-times c a q)
 
-times-bytes : (c r : ℕ) (q : List ℕ) → IsByte r → Bytes q → Bytes (times c r q)
+pub times-bytes : (c r : ℕ) (q : List ℕ) → IsByte r → Bytes q → Bytes (times c r q)
 unfolding times
 times-bytes c r [] hr hq zero = hr
 times-bytes c r [] hr hq (suc i) = hq 0
 times-bytes c r (a ∷ q) hr hq zero = add-byte r _ hr (mul-byte c a)
 times-bytes c r (a ∷ q) hr hq (suc i) = times-bytes c a q (hq 0) (λ k. hq (suc k)) i
 
-value-times : (c r : ℕ) (q : List ℕ) (z : ℕ) → value (times c r q) z ≡ add r (mul (add z c) (value q z))
+pub value-times : (c r : ℕ) (q : List ℕ) (z : ℕ) → value (times c r q) z ≡ add r (mul (add z c) (value q z))
 unfolding value times
 value-times c r [] z = ap (add r) (mul-zero-right z ∙ sym (mul-zero-right (add z c)))
 value-times c r (a ∷ q) z =
@@ -83,6 +87,26 @@ value-times c r (a ∷ q) z =
   where
     inner : mul z (mul (add z c) (value q z)) ≡ mul (add z c) (mul z (value q z))
     inner = sym (mul-assoc z (add z c) _) ∙ ap (λ (k : ℕ). mul k (value q z)) (mul-comm z (add z c)) ∙ mul-assoc (add z c) z _
+
+times-first : (c r : ℕ) (q : List ℕ) → getD (times c r q) 0 0 ≡ add r (mul c (getD q 0 0))
+unfolding times
+times-first c r [] = sym (ap (add r) (mul-zero-right c) ∙ add-zero-right r)
+times-first c r (a ∷ q) = refl
+
+times-next : (c r : ℕ) (q : List ℕ) (j : ℕ) → getD (times c r q) (suc j) 0 ≡ add (getD q j 0) (mul c (getD q (suc j) 0))
+unfolding times
+times-next c r [] j = sym (ap (add 0) (mul-zero-right c) ∙ add-zero-right 0)
+times-next c r (a ∷ q) zero = times-first c a q
+times-next c r (a ∷ q) (suc j) = times-next c a q j
+
+-- .. for a list p that has these coefficients, and zeros behind them
+pub value-product : (c r : ℕ) (q p : List ℕ) (z : ℕ) → getD p 0 0 ≡ add r (mul c (getD q 0 0))
+    → ((j : ℕ) → getD p (suc j) 0 ≡ add (getD q j 0) (mul c (getD q (suc j) 0))) → value p z ≡ add r (mul (add z c) (value q z))
+value-product c r q p z first next = value-ext p (times c r q) z same ∙ value-times c r q z
+  where
+    same : (j : ℕ) → getD p j 0 ≡ getD (times c r q) j 0
+    same zero = first ∙ sym (times-first c r q)
+    same (suc j) = next j ∙ sym (times-next c r q j)
 
 -- at c itself only r is left
 value-times-here : (c r : ℕ) (q : List ℕ) → value (times c r q) c ≡ r

@@ -1,23 +1,18 @@
 -- As many coefficients as points: they are zeros if the values are, and so they are determined by the values. Assumes nothing.
 use mathlib.Core.Path.{_≡_, sym, _∙_}
 use mathlib.Core.List.{List}
-use Prim.Native.Nat.{ℕ, zero, suc, _+_, _<_}
-use native.Mathlib.Omega.{arith}
+use Prim.Native.Nat.{ℕ, suc, _+_, _<_}
 use lib.ListN.{length, getD}
 use Rattle.base.specs.Seq.{tabulate}
 use Rattle.base.proofs.Seq.{length-tabulate, getD-tabulate}
 use Rattle.field.specs.Field.{IsByte, add, mul, pow}
 use Rattle.field.specs.FiniteSum.{sum}
 use Rattle.field.proofs.Addition.{add-byte, add-self, add-eq-zero, add-zero-eq}
-use Rattle.field.proofs.Exponents.{pow-zero, pow-suc, pow-byte, mul-nonzero}
+use Rattle.field.proofs.Exponents.{pow-byte, pow-nonzero}
 use Rattle.interpolation.specs.Polynomial.{evaluate, Points}
 use Rattle.interpolation.proofs.Rows.{bytes-tabulate}
 use Rattle.interpolation.proofs.Evaluate.{evaluate-add, evaluate-rest}
 use Rattle.interpolation.proofs.Horner.{value-byte, sum-value, other-zero, vanishing}
-
-pub pow-nonzero : (c e : ℕ) → IsByte c → (c ≡ 0 → ⊥) → pow c e ≡ 0 → ⊥
-pow-nonzero c zero hc n p = omega (arith, pow-zero c)
-pow-nonzero c (suc e) hc n p = mul-nonzero c (pow c e) hc (pow-byte c e) n (pow-nonzero c e hc n) (sym (pow-suc c e) ∙ p)
 
 -- The matrix of the powers e + 1, e + 2, .. of the points, as many as there are points, has only zeros in its kernel.
 pub kernel : (e : ℕ) (ps : List ℕ) (v : ℕ → ℕ) → Points ps → ((j : ℕ) → j < length ps → IsByte (v j))

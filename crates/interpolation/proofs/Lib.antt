@@ -2,6 +2,7 @@ pub mod Rows
 pub mod Evaluate
 pub mod Horner
 pub mod Kernel
+pub mod Lagrange
 pub mod Completion
 pub mod Parts
 pub mod PointLists

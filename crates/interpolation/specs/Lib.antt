@@ -1,1 +1,2 @@
 pub mod Polynomial
+pub mod Lagrange

@@ -59,20 +59,32 @@ list-requires c κs = search needs
 list-requires-2 : tie.Need-list-requires-2
 list-requires-2 c κs = search needs
 
-array-share-prefix-known : tie.Need-array-share-prefix-known
-array-share-prefix-known c = front-fits _ (word (c .before .before .before .before .before .before .before .before .before) .0) (c .before .list .result) (c .before .list .ensures) _ (c .before .before .before .before .before .before .size .ensures)
+logs-requires : tie.Need-logs-requires
+logs-requires c κs = search needs
 
 slice-aggregate-complete : tie.Need-slice-aggregate-complete
-slice-aggregate-complete c = front-count _ (word (c .before .before .before .before .before .before .before .before .before .before) .0) (c .before .before .list .result) (c .before .before .list .ensures) _ (c .before .before .before .before .before .before .before .size .ensures)
+slice-aggregate-complete c = search needs
 
-array-share-prefix-wanted : tie.Need-array-share-prefix-wanted
-array-share-prefix-wanted c = front-fits _ (word (c .before .before .before .before .before .before .before .before .before .before) .1) (c .before .list2 .result) (c .before .list2 .ensures) _ (c .before .before .before .before .before .before .size2 .ensures)
+powers-requires : tie.Need-powers-requires
+powers-requires c κs = search needs
 
 slice-aggregate-complete-2 : tie.Need-slice-aggregate-complete-2
-slice-aggregate-complete-2 c = front-count _ (word (c .before .before .before .before .before .before .before .before .before .before .before) .1) (c .before .before .list2 .result) (c .before .before .list2 .ensures) _ (c .before .before .before .before .before .before .before .size2 .ensures)
+slice-aggregate-complete-2 c = search needs
+
+array-share-prefix-known : tie.Need-array-share-prefix-known
+array-share-prefix-known c = front-fits _ (word (c .before .before .before .before .before .before .before .before .before .before .before .before .before) .0) (c .before .before .before .before .before .list .result) (c .before .before .before .before .before .list .ensures) _ (c .before .before .before .before .before .before .before .before .before .before .size .ensures)
+
+slice-aggregate-complete-3 : tie.Need-slice-aggregate-complete-3
+slice-aggregate-complete-3 c = front-count _ (word (c .before .before .before .before .before .before .before .before .before .before .before .before .before .before) .0) (c .before .before .before .before .before .before .list .result) (c .before .before .before .before .before .before .list .ensures) _ (c .before .before .before .before .before .before .before .before .before .before .before .size .ensures)
+
+array-share-prefix-wanted : tie.Need-array-share-prefix-wanted
+array-share-prefix-wanted c = front-fits _ (word (c .before .before .before .before .before .before .before .before .before .before .before .before .before .before) .1) (c .before .before .before .before .before .list2 .result) (c .before .before .before .before .before .list2 .ensures) _ (c .before .before .before .before .before .before .before .before .before .before .size2 .ensures)
+
+slice-aggregate-complete-4 : tie.Need-slice-aggregate-complete-4
+slice-aggregate-complete-4 c = front-count _ (word (c .before .before .before .before .before .before .before .before .before .before .before .before .before .before .before) .1) (c .before .before .before .before .before .before .list2 .result) (c .before .before .before .before .before .before .list2 .ensures) _ (c .before .before .before .before .before .before .before .before .before .before .before .size2 .ensures)
 
 complete-requires : tie.Need-complete-requires
-complete-requires c κs = completable (c .before .before .before .before .before .before .before .before .before .before .before .before .before .args .e) _ _ _ _ _ _ _ _ (lent (c .before .before .before .before)) (omega arith) (c .before .before .before .before .before .before .before .if2 .left) (c .before .before .before .before .before .before .if3 .left)
+complete-requires c κs = (c .before .before .before .before .before .before .before .logs .ensures, (c .before .before .before .before .before .powers .ensures, completable (c .before .before .before .before .before .before .before .before .before .before .before .before .before .before .before .before .before .args .e) _ _ _ _ _ _ _ _ (lent (c .before .before .before .before .before .before .before .before)) (omega arith) (c .before .before .before .before .before .before .before .before .before .before .before .if2 .left) (c .before .before .before .before .before .before .before .before .before .before .if3 .left)))
 
 same-length : tie.Need-same-length
 same-length c = search needs
@@ -82,8 +94,8 @@ same-length-2 c = search needs
 
 returns-4 : tie.Need-returns-4
 returns-4 c =
-    extends-made (c .before .before .before .before .before .before .before .before .before .before .before .before .before .before .before .before .before .before .args .e) _ _ _ _ _ _ (now (c .before .before .before .before .before .before .before .before .before .before .before .before .before .before .before .before .before .before .args .leading)) (now (c .before .before .before .before .before .before .before .before .before .before .before .before .before .before .before .before .before .before .args .gains)) (lent (c .before .before .before .before .before .before .before .before .before)) (omega arith) (c .before .before .before .before .before .before .before .before .before .before .before .before .if2 .left) (c .before .before .before .before .before .before .before .before .before .before .before .if3 .left) _ _
-    (c .before .before .before .before .complete .kept .1 .1 .1 .0) (c .before .before .before .before .complete .kept .1 .1 .1 .1 .0) (c .before .before .before .before .complete .ensures)
+    extends-made (c .before .before .before .before .before .before .before .before .before .before .before .before .before .before .before .before .before .before .before .before .before .before .args .e) _ _ _ _ _ _ (now (c .before .before .before .before .before .before .before .before .before .before .before .before .before .before .before .before .before .before .before .before .before .before .args .leading)) (now (c .before .before .before .before .before .before .before .before .before .before .before .before .before .before .before .before .before .before .before .before .before .before .args .gains)) (lent (c .before .before .before .before .before .before .before .before .before .before .before .before .before)) (omega arith) (c .before .before .before .before .before .before .before .before .before .before .before .before .before .before .before .before .if2 .left) (c .before .before .before .before .before .before .before .before .before .before .before .before .before .before .before .if3 .left) _ _
+    (c .before .before .before .before .complete .kept .1 .1 .1 .1 .1 .0) (c .before .before .before .before .complete .kept .1 .1 .1 .1 .1 .1 .0) (c .before .before .before .before .complete .ensures)
 
 pub completion-rows-spec : {M : Type 1} → statement M
 completion-rows-spec =
@@ -98,10 +110,14 @@ completion-rows-spec =
     returns-3
     list-requires
     list-requires-2
-    array-share-prefix-known
+    logs-requires
     slice-aggregate-complete
-    array-share-prefix-wanted
+    powers-requires
     slice-aggregate-complete-2
+    array-share-prefix-known
+    slice-aggregate-complete-3
+    array-share-prefix-wanted
+    slice-aggregate-complete-4
     complete-requires
     same-length
     same-length-2

@@ -1,0 +1,39 @@
+-- The leading powers, and the gains with their share. Assumes nothing.
+use borrow.Author.Needs.{needs}
+use denote.Ref.{now}
+use Rattle.coefficients.proofs.Completion.{completed}
+use Rattle.coefficients.proofs.completing.complete.Statement.{statement}
+use Rattle.coefficients.proofs.completing.complete.Tie as tie
+
+fill-rows-requires : tie.Need-fill-rows-requires
+fill-rows-requires c κs = search needs
+
+gain-rows-requires : tie.Need-gain-rows-requires
+gain-rows-requires c κs = search needs
+
+add-share-requires : tie.Need-add-share-requires
+add-share-requires c κs =
+    let can = c .before .before .before .before .before .before .before .before .before .before .before .before .before .before .before .before .pre .1 .1 in
+    (c .before .before .before .before .before .before .before .before .before .before .before .before .before .before .before .before .pre .0, (c .before .before .before .before .before .before .before .before .before .before .before .before .before .before .before .before .pre .1 .0, record { most = can .most; e-most = can .e-most; points = can .points; gains-room = search needs; room = search needs }))
+
+same-length : tie.Need-same-length
+same-length c = search needs
+
+same-length-2 : tie.Need-same-length-2
+same-length-2 c = search needs
+
+returns : tie.Need-returns
+returns c =
+    let s = c .before .before .before .before .before .before .before .before .before .before .before .before .before .before .before .before .before .before .before .args in
+    completed (s .e) (now (s .at)) (now (s .targets)) _ _ _ (c .before .before .before .before .before .before .before .before .before .before .before .fill-rows .ensures) (c .before .before .before .before .before .before .before .gain-rows .ensures) (c .before .before .add-share .ensures)
+
+pub complete-spec : {M : Type 1} → statement M
+complete-spec =
+    tie.close
+    (tie.spec
+    fill-rows-requires
+    gain-rows-requires
+    add-share-requires
+    same-length
+    same-length-2
+    returns)

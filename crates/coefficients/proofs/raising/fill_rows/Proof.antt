@@ -1,0 +1,95 @@
+-- After i turns the first i rows are the powers of their points. Assumes nothing.
+use mathlib.Core.Path.{ap, _∙_}
+use Prim.Native.Nat.{ℕ, suc, _+_, _-_, _*_, _≤_}
+use native.Mathlib.Omega.{arith}
+use borrow.Author.Needs.{needs}
+use denote.Ref.{now}
+use lib.ListN.{length, getD}
+use Rattle.base.proofs.Parts.{Blocked, blocked-none, blocked-more, row-ends, partOf, length-partOf}
+use Rattle.field.specs.Field.{pow}
+use Rattle.code.specs.Code.{point}
+use Rattle.coefficients.specs.Coefficients.{powerRows}
+use Rattle.coefficients.specs.Working.{powersFrom}
+use Rattle.coefficients.proofs.Rows.{row-powers, blocked-whole}
+use Rattle.coefficients.proofs.raising.fill_rows.Statement.{statement}
+use Rattle.coefficients.proofs.raising.fill_rows.Tie as tie
+
+abbrev Inv-loop : tie.InvT-loop
+Inv-loop logs exps nodes e m out₀ count i₀ out i = (i ≤ length nodes) × Blocked m (length nodes) (λ k j. pow (point (getD nodes k 0)) (e + suc j)) i out₀ out
+
+abbrev μ-loop : tie.MeasureT-loop
+μ-loop logs exps nodes e m out₀ count i₀ out i = length nodes - i
+
+loop-holds : tie.Need-loop-holds Inv-loop μ-loop
+loop-holds c = (omega arith, blocked-none _ _ _ _)
+
+row-end : (c : tie.In-loop Inv-loop μ-loop) → c .before .loop .i * c .before .before .before .before .before .before .args .m + c .before .before .before .before .before .before .args .m ≤ length (now (c .before .before .before .before .before .before .args .out))
+row-end c = row-ends (length (now (c .before .before .before .before .before .before .args .nodes))) (c .before .loop .i) (c .before .before .before .before .before .before .args .m) _ (omega arith) (omega (arith, c .before .before .before .before .before .before .pre))
+
+mul-at : tie.Need-mul-at Inv-loop μ-loop
+mul-at c = omega (arith, row-end c)
+
+add-end : tie.Need-add-end Inv-loop μ-loop
+add-end c = omega (arith, row-end c)
+
+shared-slice-read-t15 : tie.Need-shared-slice-read-t15 Inv-loop μ-loop
+shared-slice-read-t15 c = search needs
+
+point-requires : tie.Need-point-requires Inv-loop μ-loop
+point-requires c κs = search needs
+
+sub-fill-powers : tie.Need-sub-fill-powers Inv-loop μ-loop
+sub-fill-powers c = search needs
+
+part-fill-powers-start : tie.Need-part-fill-powers-start Inv-loop μ-loop
+part-fill-powers-start c = search needs
+
+part-fill-powers-end : tie.Need-part-fill-powers-end Inv-loop μ-loop
+part-fill-powers-end c = omega (arith, row-end (c .before .before), c .before .before .before .loop .inv .1 .same)
+
+fill-powers-requires : tie.Need-fill-powers-requires Inv-loop μ-loop
+fill-powers-requires c κs = search needs
+
+add-i : tie.Need-add-i Inv-loop μ-loop
+add-i c = search needs
+
+loop-less : tie.Need-loop-less Inv-loop μ-loop
+loop-less c = search needs
+
+loop-again : tie.Need-loop-again Inv-loop μ-loop
+loop-again c =
+    let s = c .before .before .before .before .before .before .before .before .before .before .before .before in
+    let l = c .before .before .before .before .before .before .before .loop in
+    let part = partOf (s .args .m) (l .i) (l .out) in
+    let r = row-powers (point (getD (now (s .args .nodes)) (l .i) 0)) (s .args .e) (s .args .m) part (c .before .before .fill-powers .last .1 .1 .1 .1 .0)
+    (length-partOf (s .args .m) (l .i) (l .out) (omega (arith, row-end (c .before .before .before .before .before .before), l .inv .1 .same)))
+    (c .before .before .fill-powers .ensures ∙ ap (λ (x : ℕ). powersFrom x (s .args .e) (length part)) (c .before .before .before .before .point .ensures)) in
+    (omega arith, blocked-more _ _ _ (l .i) _ (l .out) (c .before .before .fill-powers .last .1 .1 .1 .1 .0) (omega arith) (s .pre .1 .1) (r .0) (r .1) (l .inv .1))
+
+same-length : tie.Need-same-length Inv-loop μ-loop
+same-length c = c .before .loop .inv .1 .same
+
+returns : tie.Need-returns Inv-loop μ-loop
+unfolding powerRows
+returns c = blocked-whole _ _ _ _ _ _ (c .before .before .before .before .before .before .pre .1 .1) (omega arith) (c .before .loop .inv .1)
+
+pub fill-rows-spec : {M : Type 1} → statement M
+fill-rows-spec =
+    tie.close
+    (tie.spec
+    Inv-loop
+    μ-loop
+    loop-holds
+    mul-at
+    add-end
+    shared-slice-read-t15
+    point-requires
+    sub-fill-powers
+    part-fill-powers-start
+    part-fill-powers-end
+    fill-powers-requires
+    add-i
+    loop-less
+    loop-again
+    same-length
+    returns)

@@ -1,0 +1,350 @@
+// From leading coefficients and values at some nodes to values at others.
+use crate::in_order;
+use crate::logarithms::exponent;
+use crate::logarithms::opposite;
+use crate::logarithms::reduced;
+use crate::point;
+use crate::raising::fill_rows;
+use base::wide;
+use kernels::add_product;
+use params::Node;
+ghost use mathlib.Core.Path.{_≡_};
+ghost use Prim.Native.Nat.{_*_, _≤_, _<_};
+ghost use lib.ListN.{length};
+ghost use Rattle.field.specs.Field.{pow, LogTable, PowerTable};
+ghost use Rattle.code.specs.Code.{point};
+ghost use Rattle.interpolation.specs.Polynomial.{Points};
+ghost use Rattle.interpolation.specs.Lagrange.{factor, apart};
+ghost use Rattle.coefficients.specs.Working.{pointsOf, same, unitRow, gainRow, gainRows, Missing, Listed, Weighed, Weighable, Findable, Carries, Carriable, withPowers, withShare, Shared, Sharable, Completed, Completable};
+
+// What the leading coefficients give at the nodes of `at` does not belong to the others, so its share is added to leading.
+pub(crate) fn complete(
+    logs: &[u8],
+    exps: &[u8],
+    e: usize,
+    at: &[u8],
+    targets: &[u8],
+    leading: &mut [u8],
+    gains: &mut [u8],
+)
+    requires { ⌜ LogTable (now logs) ⌝ }
+    requires { ⌜ PowerTable (now exps) ⌝ }
+    requires { ⌜ Completable e (now at) (now targets) (now leading) (now gains) ⌝ }
+    ensures { λ _. ⌜ Completed e (now (at .entry)) (now (targets .entry)) (now (leading .exit)) (now (gains .exit)) ⌝ }
+{
+    fill_rows(logs, exps, targets, 0, e, leading);
+    gain_rows(logs, exps, e, at, targets, gains);
+    add_share(logs, exps, targets.len(), e, at, gains, leading);
+}
+
+// gains := the coefficients that take what the other coefficients give at the nodes of `at` to what they give at the targets: at target t, for node i with
+// point c, (t/c)^(e+1) times the product of all (t - d)/(c - d), for the points d of the other nodes.
+fn gain_rows(logs: &[u8], exps: &[u8], e: usize, at: &[u8], targets: &[u8], gains: &mut [u8])
+    requires { ⌜ LogTable (now logs) ⌝ }
+    requires { ⌜ PowerTable (now exps) ⌝ }
+    requires { ⌜ Carriable e (now at) (now targets) (now gains) ⌝ }
+    ensures { λ _. ⌜ Carries e (now (at .entry)) (now (targets .entry)) (now (gains .exit)) ⌝ }
+{
+    let mut weights = [0u8; 32];
+    weigh(logs, e, at, &mut weights);
+    fill_gains(logs, exps, e, at, &weights, targets, gains);
+}
+
+// weights := for each node the exponent of what its gains are divided by.
+fn weigh(logs: &[u8], e: usize, at: &[u8], weights: &mut [u8])
+    requires { ⌜ LogTable (now logs) ⌝ }
+    requires { ⌜ Weighable e (now at) ⌝ }
+    requires { ⌜ length (now weights) ≡ 32 ⌝ }
+    ensures { λ _. ⌜ Weighed e (now (at .entry)) (length (now (at .entry))) (now (weights .exit)) ⌝ }
+{
+    let m = at.len();
+    let mut i = 0;
+    while i < m {
+        weights[i] = spread(logs, e, at, at[i]) as u8;
+        i += 1;
+    }
+}
+
+// The exponent of x^(e+1) times the product of all x - d, for the points d of `at` other than x.
+fn spread(logs: &[u8], e: usize, at: &[u8], node: u8) -> usize
+    requires { ⌜ LogTable (now logs) ⌝ }
+    requires { ⌜ Weighable e (now at) ⌝ }
+    requires { ⌜ (point node ≡ 0 → ⊥) ⌝ }
+    ensures { λ r. ⌜ (r < 255) × (pow 2 r ≡ apart e (pointsOf (now (at .entry))) (point node) (point node)) ⌝ }
+{
+    let x = point(Node(node)).0;
+    let m = at.len();
+    let mut sum = exponent(logs, x) * (e + 1);
+    let mut j = 0;
+    while j < m {
+        sum += difference(logs, x, point(Node(at[j])).0);
+        j += 1;
+    }
+    sum % 255
+}
+
+// The exponent of x - d; that of 01 where they are equal.
+fn difference(logs: &[u8], x: u8, d: u8) -> usize
+    requires { ⌜ LogTable (now logs) ⌝ }
+    ensures { λ r. ⌜ (r < 255) × (pow 2 r ≡ factor x x d) ⌝ }
+{
+    if x == d {
+        return 0;
+    }
+    exponent(logs, x ^ d)
+}
+
+// gains := a row for each target.
+fn fill_gains(
+    logs: &[u8],
+    exps: &[u8],
+    e: usize,
+    at: &[u8],
+    weights: &[u8],
+    targets: &[u8],
+    gains: &mut [u8],
+)
+    requires { ⌜ LogTable (now logs) ⌝ }
+    requires { ⌜ PowerTable (now exps) ⌝ }
+    requires { ⌜ Carriable e (now at) (now targets) (now gains) ⌝ }
+    requires { ⌜ Weighed e (now at) (length (now at)) (now weights) ⌝ }
+    ensures { λ _. ⌜ now (gains .exit) ≡ gainRows e (now (at .entry)) (now (targets .entry)) ⌝ }
+{
+    let m = at.len();
+    let mut t = 0;
+    while t < targets.len() {
+        let first = t * m;
+        let end = first + m;
+        fill_gain(
+            logs,
+            exps,
+            e,
+            at,
+            weights,
+            targets[t],
+            &mut gains[first..end],
+        );
+        t += 1;
+    }
+}
+
+// gains := the row of one target.
+fn fill_gain(
+    logs: &[u8],
+    exps: &[u8],
+    e: usize,
+    at: &[u8],
+    weights: &[u8],
+    target: u8,
+    gains: &mut [u8],
+)
+    requires { ⌜ LogTable (now logs) ⌝ }
+    requires { ⌜ PowerTable (now exps) ⌝ }
+    requires { ⌜ Findable e (now at) (now weights) target (now gains) ⌝ }
+    ensures { λ _. ⌜ now (gains .exit) ≡ gainRow e (now (at .entry)) target ⌝ }
+{
+    if lists(at, target) {
+        fill_unit(at, target, gains);
+        return;
+    }
+    fill_apart(logs, exps, e, at, weights, target, gains);
+}
+
+// Whether the node is one of these.
+fn lists(nodes: &[u8], node: u8) -> bool
+    ensures { λ r. ⌜ Listed (now (nodes .entry)) node r ⌝ }
+{
+    let mut j = 0;
+    while j < nodes.len() {
+        if nodes[j] == node {
+            return true;
+        }
+        j += 1;
+    }
+    false
+}
+
+// A target that is a node itself: its own value, and no other.
+fn fill_unit(at: &[u8], target: u8, gains: &mut [u8])
+    requires { ⌜ length (now gains) ≡ length (now at) ⌝ }
+    ensures { λ _. ⌜ now (gains .exit) ≡ unitRow (now (at .entry)) target ⌝ }
+{
+    let m = at.len();
+    let mut j = 0;
+    while j < m {
+        gains[j] = equal(at[j], target);
+        j += 1;
+    }
+}
+
+// 1 for equal nodes, 0 for others.
+fn equal(x: u8, y: u8) -> u8
+    ensures { λ r. ⌜ r ≡ same x y ⌝ }
+{
+    if x == y {
+        return 1;
+    }
+    0
+}
+
+// A target that is none of the nodes: the product of all t - d, without the node's own factor, divided by the node's weight.
+fn fill_apart(
+    logs: &[u8],
+    exps: &[u8],
+    e: usize,
+    at: &[u8],
+    weights: &[u8],
+    target: u8,
+    gains: &mut [u8],
+)
+    requires { ⌜ LogTable (now logs) ⌝ }
+    requires { ⌜ PowerTable (now exps) ⌝ }
+    requires { ⌜ Findable e (now at) (now weights) target (now gains) ⌝ }
+    requires { ⌜ Missing (length (now at)) (now at) target ⌝ }
+    ensures { λ _. ⌜ now (gains .exit) ≡ gainRow e (now (at .entry)) target ⌝ }
+{
+    let whole = spread(logs, e, at, target);
+    let x = point(Node(target)).0;
+    let m = at.len();
+    let mut j = 0;
+    while j < m {
+        let parts = reduced(wide(weights[j]) + exponent(logs, x ^ point(Node(at[j])).0));
+        gains[j] = exps[reduced(whole + opposite(parts))];
+        j += 1;
+    }
+}
+
+// leading += gains times the powers 1, .., e of the points of `at`.
+fn add_share(
+    logs: &[u8],
+    exps: &[u8],
+    rows: usize,
+    e: usize,
+    at: &[u8],
+    gains: &[u8],
+    leading: &mut [u8],
+)
+    requires { ⌜ LogTable (now logs) ⌝ }
+    requires { ⌜ PowerTable (now exps) ⌝ }
+    requires { ⌜ Sharable rows e (now at) (now gains) (now leading) ⌝ }
+    ensures { λ _. ⌜ Shared rows e (now (at .entry)) (now (gains .entry)) (now (leading .entry)) (now (leading .exit)) ⌝ }
+{
+    if at.len() * e <= 32 {
+        add_row_shares(logs, exps, rows, e, at, gains, leading);
+        return;
+    }
+    add_large_share(logs, exps, rows, e, at, gains, leading);
+}
+
+// The same, row by row: for few powers.
+fn add_row_shares(
+    logs: &[u8],
+    exps: &[u8],
+    rows: usize,
+    e: usize,
+    at: &[u8],
+    gains: &[u8],
+    leading: &mut [u8],
+)
+    requires { ⌜ LogTable (now logs) ⌝ }
+    requires { ⌜ PowerTable (now exps) ⌝ }
+    requires { ⌜ Sharable rows e (now at) (now gains) (now leading) ⌝ }
+    ensures { λ _. ⌜ Shared rows e (now (at .entry)) (now (gains .entry)) (now (leading .entry)) (now (leading .exit)) ⌝ }
+{
+    let m = at.len();
+    let mut t = 0;
+    while t < rows {
+        let first = t * e;
+        let end = first + e;
+        let start = t * m;
+        let stop = start + m;
+        add_row_share(
+            logs,
+            exps,
+            at,
+            &gains[start..stop],
+            &mut leading[first..end],
+        );
+        t += 1;
+    }
+}
+
+// One row: leading += the gains times the powers 1, 2, .. of the points of `at`.
+fn add_row_share(logs: &[u8], exps: &[u8], at: &[u8], gains: &[u8], leading: &mut [u8])
+    requires { ⌜ LogTable (now logs) ⌝ }
+    requires { ⌜ PowerTable (now exps) ⌝ }
+    requires { ⌜ Points (pointsOf (now at)) ⌝ }
+    requires { ⌜ length (now gains) ≡ length (now at) ⌝ }
+    ensures { λ _. ⌜ now (leading .exit) ≡ withShare (length (now (at .entry))) (now (at .entry)) (now (gains .entry)) (now (leading .entry)) ⌝ }
+{
+    let m = at.len();
+    let mut o = 0;
+    while o < m {
+        add_powers(logs, exps, gains[o], point(Node(at[o])).0, leading);
+        o += 1;
+    }
+}
+
+// leading += g times the powers 1, 2, .. of x, which is not 00.
+fn add_powers(logs: &[u8], exps: &[u8], g: u8, x: u8, leading: &mut [u8])
+    requires { ⌜ LogTable (now logs) ⌝ }
+    requires { ⌜ PowerTable (now exps) ⌝ }
+    requires { ⌜ (x ≡ 0 → ⊥) ⌝ }
+    ensures { λ _. ⌜ now (leading .exit) ≡ withPowers g x (now (leading .entry)) ⌝ }
+{
+    if g == 0 {
+        return;
+    }
+    let l = exponent(logs, x);
+    let mut sum = exponent(logs, g);
+    let count = leading.len();
+    let mut j = 0;
+    while j < count {
+        sum = reduced(sum + l);
+        leading[j] = leading[j] ^ exps[sum];
+        j += 1;
+    }
+}
+
+// The same, through one product: for any number of powers.
+fn add_large_share(
+    logs: &[u8],
+    exps: &[u8],
+    rows: usize,
+    e: usize,
+    at: &[u8],
+    gains: &[u8],
+    leading: &mut [u8],
+)
+    requires { ⌜ LogTable (now logs) ⌝ }
+    requires { ⌜ PowerTable (now exps) ⌝ }
+    requires { ⌜ Sharable rows e (now at) (now gains) (now leading) ⌝ }
+    ensures { λ _. ⌜ Shared rows e (now (at .entry)) (now (gains .entry)) (now (leading .entry)) (now (leading .exit)) ⌝ }
+{
+    let mut powers = [0u8; 1024];
+    share_within(logs, exps, rows, e, at, gains, &mut powers, leading);
+}
+
+// The same, with room for the powers.
+fn share_within(
+    logs: &[u8],
+    exps: &[u8],
+    rows: usize,
+    e: usize,
+    at: &[u8],
+    gains: &[u8],
+    powers: &mut [u8],
+    leading: &mut [u8],
+)
+    requires { ⌜ LogTable (now logs) ⌝ }
+    requires { ⌜ PowerTable (now exps) ⌝ }
+    requires { ⌜ Sharable rows e (now at) (now gains) (now leading) ⌝ }
+    requires { ⌜ length (now at) * e ≤ length (now powers) ⌝ }
+    ensures { λ _. ⌜ Shared rows e (now (at .entry)) (now (gains .entry)) (now (leading .entry)) (now (leading .exit)) ⌝ }
+{
+    let m = at.len();
+    let area = m * e;
+    fill_rows(logs, exps, at, 0, e, &mut powers[..area]);
+    let order = in_order();
+    add_product(leading, rows, e, &powers[..area], &order[..m], gains, m);
+}

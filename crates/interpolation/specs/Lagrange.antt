@@ -1,0 +1,30 @@
+-- Lagrange's basis polynomials, by their values: each is 01 at one of the points and 00 at the others. e is the number of leading coefficients; these
+-- polynomials have none of them, so that each has the factor z^(e+1). Assumes nothing.
+use mathlib.Core.Bool.{Bool, true, false}
+use mathlib.Core.List.{List}
+use Prim.Native.Nat.{ℕ, zero, suc}
+use lib.Dec.{eqb}
+use lib.ListN.{length, getD}
+use Rattle.field.specs.Field.{add, mul, pow}
+
+-- f 0 · f 1 · .. · f (n - 1)
+unfoldable pub product : ℕ → (ℕ → ℕ) → ℕ
+product zero f = 1
+product (suc n) f = mul (product n f) (f n)
+
+-- 01 for yes, a for no
+unfoldable pub unless : Bool → ℕ → ℕ
+unless true a = 1
+unless false a = a
+
+-- the factor of the point d in the product for the point x, at z: z - d, or 01 where d is x itself
+unfoldable pub factor : ℕ → ℕ → ℕ → ℕ
+factor x z d = unless (eqb d x) (add z d)
+
+-- z^(e+1) times the product of all z - d, for the points d of ps other than x: 00 at these points
+unfoldable pub apart : ℕ → List ℕ → ℕ → ℕ → ℕ
+apart e ps x z = mul (pow z (suc e)) (product (length ps) (λ j. factor x z (getD ps j 0)))
+
+-- the basis polynomial of the point x, at z: the same, divided by what it is at x, so that it is 01 there
+unfoldable pub gain : ℕ → List ℕ → ℕ → ℕ → ℕ
+gain e ps x z = mul (apart e ps x z) (pow (apart e ps x x) 254)
