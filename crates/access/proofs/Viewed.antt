@@ -4,7 +4,8 @@ use mathlib.Core.List.{List, []}
 use Prim.Native.Nat.{ℕ, _+_, _-_, _*_, _≤_}
 use native.Mathlib.Omega.{arith}
 use lib.ListN.{length, take, drop}
-use Rattle.base.proofs.Parts.{partOf, row-ends}
+use Rattle.base.specs.Parts.{partOf}
+use Rattle.base.proofs.Parts.{row-ends}
 use Rattle.gates.specs.Gates.{viewGate}
 use Rattle.params.specs.declared.Params.{Params}
 use Rattle.gates.proofs.Valid.{view-accepted}

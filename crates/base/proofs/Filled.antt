@@ -7,14 +7,9 @@ use native.Mathlib.Omega.{arith}
 use lib.ListN.{length, getD, set, length-set}
 use lib.Seq.{getD-set-same, getD-set-other}
 use Rattle.base.specs.Seq.{tabulate}
+use Rattle.base.specs.Parts.{Filled}
 use Rattle.base.proofs.Cases.{eq-or}
 use Rattle.base.proofs.Seq.{eq-tabulate}
-
--- the first t entries are f's, the others as they were
-pub record Filled (f : ℕ → ℕ) (t : ℕ) (old new : List ℕ) : Type 0 where
-  pub same : length new ≡ length old
-  pub done : (q : ℕ) → q < t → getD new q 0 ≡ f q
-  pub rest : (q : ℕ) → t ≤ q → getD new q 0 ≡ getD old q 0
 
 pub filled-none : (f : ℕ → ℕ) (l : List ℕ) → Filled f 0 l l
 filled-none f l = record { same = refl; done = λ q h. absurd (omega arith); rest = λ q h. refl }

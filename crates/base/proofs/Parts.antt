@@ -9,6 +9,7 @@ use borrow.Rule.Slice.PartMut.{putMid, postOf, same-len-mid}
 use lib.ListN.{length, getD, take, drop, length-drop, List·getD-append}
 use lib.Seq.{length-take-le, getD-take, getD-drop, getD-append-add}
 use Rattle.base.specs.Seq.{cell, blocks}
+use Rattle.base.specs.Parts.{partOf, putBlock, Blocked}
 use Rattle.base.proofs.Cases.{lt-or, eq-or}
 use Rattle.base.proofs.Seq.{cell-blocks, length-blocks, cells-ext}
 
@@ -39,20 +40,12 @@ module _ (a k : ℕ) (xs ys : List ℕ) (fits : a + k ≤ length xs) (full : len
 pub row-ends : (n i b size : ℕ) → i < n → n * b ≤ size → i * b + b ≤ size
 row-ends n i b size h k = omega (arith, mul-le-mul-right b h, suc-mul i b)
 
--- block j as the code lends it
-abbrev pub partOf : ℕ → ℕ → List ℕ → List ℕ
-partOf b j xs = take (j * b + b - j * b) (drop (j * b) xs)
-
 pub length-partOf : (b j : ℕ) (xs : List ℕ) → j * b + b ≤ length xs → length (partOf b j xs) ≡ b
 length-partOf b j xs h = length-take-le (j * b + b - j * b) (drop (j * b) xs) (omega (arith, length-drop (j * b) xs)) ∙ omega arith
 
 pub partOf-at : (b j : ℕ) (xs : List ℕ) (p : ℕ) → p < b → getD (partOf b j xs) p 0 ≡ cell b xs j p
 unfolding cell
 partOf-at b j xs p h = getD-take (j * b + b - j * b) (drop (j * b) xs) p 0 (omega arith) ∙ getD-drop (j * b) xs p 0
-
--- the part from j·b on, b entries long, as the code writes it
-abbrev pub putBlock : ℕ → ℕ → List ℕ → List ℕ → List ℕ
-putBlock b j xs ys = putMid (j * b) (j * b + b - j * b) xs ys
 
 module _ (b n j : ℕ) (xs ys : List ℕ) (hj : j < n) (hx : n * b ≤ length xs) (hy : length ys ≡ b) where
   inside : j * b + (j * b + b - j * b) ≤ length xs
@@ -81,12 +74,6 @@ module _ (b n j : ℕ) (xs ys : List ℕ) (hj : j < n) (hx : n * b ≤ length xs
       (whole ∙ sym (length-take-le (j * b + b - j * b) (drop (j * b) xs) (omega (arith, length-drop (j * b) xs, inside))))
 
 -- ---- a loop that writes the blocks of a list one after the other
-
--- of n blocks of b bytes the first t are f's, the others as they were
-pub record Blocked (b n : ℕ) (f : ℕ → ℕ → ℕ) (t : ℕ) (old new : List ℕ) : Type 0 where
-  pub same : length new ≡ length old
-  pub done : (i p : ℕ) → i < t → p < b → cell b new i p ≡ f i p
-  pub rest : (i p : ℕ) → t ≤ i → p < b → cell b new i p ≡ cell b old i p
 
 pub blocked-none : (b n : ℕ) (f : ℕ → ℕ → ℕ) (l : List ℕ) → Blocked b n f 0 l l
 blocked-none b n f l = record { same = refl; done = λ i p h hp. absurd (omega arith); rest = λ i p h hp. refl }

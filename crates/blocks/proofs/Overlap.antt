@@ -7,7 +7,7 @@ use native.Mathlib.Omega.{arith}
 use lib.ListN.{length, getD, List·getD-eq-default}
 use Rattle.base.specs.Seq.{tabulate}
 use Rattle.base.proofs.Cases.{lt-or}
-use Rattle.base.proofs.Filled.{Filled}
+use Rattle.base.specs.Parts.{Filled}
 use Rattle.base.proofs.Seq.{eq-tabulate}
 use Rattle.field.specs.Field.{add}
 use Rattle.field.proofs.Addition.{add-zero-right}

@@ -11,8 +11,9 @@ use lib.ListN.{length, getD, replicate}
 use lib.Seq.{ext-getD}
 use Rattle.base.specs.Seq.{tabulate, blocks}
 use Rattle.base.proofs.Seq.{length-tabulate, getD-tabulate, tabulate-ext, tabulate-zeros, length-blocks}
-use Rattle.base.proofs.Filled.{Filled, filled-all}
-use Rattle.base.proofs.Parts.{Blocked, blocked-all}
+use Rattle.base.specs.Parts.{Filled, Blocked}
+use Rattle.base.proofs.Filled.{filled-all}
+use Rattle.base.proofs.Parts.{blocked-all}
 use Rattle.field.specs.Field.{mul, pow}
 use Rattle.field.proofs.Multiplication.{mul-zero-left}
 use Rattle.field.proofs.Exponents.{pow-suc, pow-add, pow-pow, pow-mod}

@@ -7,7 +7,8 @@ use native.Mathlib.Omega.{arith}
 use lib.ListN.{length, getD}
 use Rattle.base.specs.Seq.{tabulate, cell}
 use Rattle.base.proofs.Seq.{tabulate-ext, tabulate-getD, eq-tabulate}
-use Rattle.base.proofs.Parts.{Blocked, partOf, partOf-at}
+use Rattle.base.specs.Parts.{Blocked, partOf}
+use Rattle.base.proofs.Parts.{partOf-at}
 use Rattle.field.specs.Field.{add, mul, pow}
 use Rattle.field.specs.FiniteSum.{sum}
 use Rattle.field.proofs.Addition.{add-assoc, add-zero-right}

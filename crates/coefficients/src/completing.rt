@@ -306,7 +306,7 @@ fn add_powers(logs: &[u8], exps: &[u8], g: u8, x: u8, leading: &mut [u8])
     }
 }
 
-// The same, through one product: for any number of powers.
+// The same as add_share, through one product: for many powers.
 fn add_large_share(
     logs: &[u8],
     exps: &[u8],

@@ -46,10 +46,6 @@ unfolding evaluate
 evaluate-rest e m x v c hx =
     ap (λ (k : ℕ). add k (sum m (λ j. mul (v j) (pow c (e + suc j))))) (weighted-zeros e x _ hx) ∙ add-zero-left _
 
-pub evaluate-zeros : (e m : ℕ) (x v : ℕ → ℕ) (c : ℕ) → ((j : ℕ) → j < e → x j ≡ 0) → ((j : ℕ) → j < m → v j ≡ 0)
-    → evaluate e m x v c ≡ 0
-evaluate-zeros e m x v c hx hv = evaluate-rest e m x v c hx ∙ weighted-zeros m v _ hv
-
 -- leading and remaining coefficients in one row w: where it is cut does not matter (y stands for no coefficient)
 pub evaluate-join : (e m : ℕ) (x v w y : ℕ → ℕ) (c : ℕ) → ((j : ℕ) → j < e → w j ≡ x j) → ((j : ℕ) → j < m → w (e + j) ≡ v j)
     → evaluate e m x v c ≡ evaluate (e + m) 0 w y c

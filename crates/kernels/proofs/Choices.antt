@@ -9,7 +9,8 @@ use native.Mathlib.Omega.{arith}
 use lib.ListN.{length, getD, replicate, length-replicate, getD-replicate}
 use Rattle.base.specs.Seq.{cell}
 use Rattle.base.proofs.Cases.{eq-or}
-use Rattle.base.proofs.Parts.{partOf, length-partOf, partOf-at, putBlock, putBlock-here, putBlock-other, putBlock-length}
+use Rattle.base.specs.Parts.{partOf, putBlock}
+use Rattle.base.proofs.Parts.{length-partOf, partOf-at, putBlock-here, putBlock-other, putBlock-length}
 use Rattle.base.proofs.Seq.{zeros-at}
 use Rattle.field.specs.Field.{IsByte, Bytes, add, mul}
 use Rattle.field.specs.FiniteSum.{sum}

@@ -9,8 +9,8 @@ use native.Mathlib.Omega.{arith}
 use lib.ListN.{length, getD, replicate, length-replicate}
 use Rattle.base.specs.Seq.{cell}
 use Rattle.base.proofs.Cases.{eq-or}
-use Rattle.base.proofs.Filled.{Filled}
-use Rattle.base.proofs.Parts.{Blocked, blocked-more, partOf, length-partOf, partOf-at, putBlock, putBlock-here, putBlock-other, putBlock-length}
+use Rattle.base.specs.Parts.{Filled, Blocked, partOf, putBlock}
+use Rattle.base.proofs.Parts.{blocked-more, length-partOf, partOf-at, putBlock-here, putBlock-other, putBlock-length}
 use Rattle.base.proofs.Seq.{length-tabulate, getD-tabulate, zeros-at}
 use Rattle.field.specs.Field.{Bytes}
 use Rattle.kernels.specs.Tiling.{bit, number, columns, appended, shifted, longer, Picked}

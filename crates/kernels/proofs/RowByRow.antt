@@ -5,7 +5,8 @@ use Prim.Native.Nat.{ℕ, _+_, _*_, _≤_, _<_}
 use native.Mathlib.Omega.{arith}
 use lib.ListN.{length, getD, replicate, length-replicate, getD-replicate}
 use Rattle.base.specs.Seq.{cell}
-use Rattle.base.proofs.Parts.{Blocked, blocked-more, partOf, putBlock, length-partOf, partOf-at, row-ends}
+use Rattle.base.specs.Parts.{Blocked, partOf, putBlock}
+use Rattle.base.proofs.Parts.{blocked-more, length-partOf, partOf-at, row-ends}
 use Rattle.base.proofs.Seq.{cell-lt}
 use Rattle.field.specs.Field.{add, mul}
 use Rattle.field.proofs.Addition.{add-zero-left}

@@ -11,7 +11,8 @@ use borrow.Rule.Slice.PartMut.{putMid, same-len-mid}
 use lib.ListN.{length, getD, replicate}
 use Rattle.base.specs.Seq.{tabulate, cell}
 use Rattle.base.proofs.Cases.{lt-or, eq-or}
-use Rattle.base.proofs.Parts.{put-before, put-in, put-after, partOf, partOf-at, row-ends}
+use Rattle.base.specs.Parts.{partOf}
+use Rattle.base.proofs.Parts.{put-before, put-in, put-after, partOf-at, row-ends}
 use Rattle.base.proofs.Seq.{length-tabulate, getD-tabulate, eq-tabulate, tabulate-zeros}
 use Rattle.field.specs.Field.{Bytes, add, mul}
 use Rattle.field.specs.FiniteSum.{sum}

@@ -4,8 +4,7 @@ ghost use mathlib.Core.Path.{_≡_};
 ghost use Prim.Native.Nat.{_+_, _*_, _≤_};
 ghost use lib.ListN.{length, replicate};
 ghost use Rattle.base.specs.Seq.{cell};
-ghost use Rattle.base.proofs.Filled.{Filled};
-ghost use Rattle.base.proofs.Parts.{Blocked};
+ghost use Rattle.base.specs.Parts.{Filled, Blocked};
 ghost use Rattle.kernels.specs.Blocks.{Rows};
 ghost use Rattle.kernels.specs.Tiling.{appended, shifted, longer, Picked};
 

@@ -8,7 +8,7 @@ use field::double;
 ghost use mathlib.Core.Path.{_≡_};
 ghost use Prim.Native.Nat.{_+_, _*_, _≤_};
 ghost use lib.ListN.{length};
-ghost use Rattle.base.proofs.Parts.{partOf, putBlock};
+ghost use Rattle.base.specs.Parts.{partOf, putBlock};
 ghost use Rattle.blocks.specs.Bytes.{plus};
 ghost use Rattle.kernels.specs.Blocks.{Inside};
 ghost use Rattle.kernels.specs.Tiling.{multiple, tileAt, Raised, Chosen, Tabled};

@@ -9,7 +9,8 @@ use native.Mathlib.Omega.{arith}
 use lib.ListN.{length, getD}
 use Rattle.base.specs.Seq.{cell}
 use Rattle.base.proofs.Cases.{eq-or}
-use Rattle.base.proofs.Parts.{partOf, length-partOf, partOf-at, putBlock, putBlock-here, putBlock-other, putBlock-length, row-ends}
+use Rattle.base.specs.Parts.{partOf, putBlock}
+use Rattle.base.proofs.Parts.{length-partOf, partOf-at, putBlock-here, putBlock-other, putBlock-length, row-ends}
 use Rattle.params.specs.Nodes.{has, size, count, nodes}
 use Rattle.params.proofs.Sets.{entry, node-at-rank, size-count}
 use Rattle.blocks.specs.Bytes.{over}

@@ -9,7 +9,8 @@ use lib.ListN.{length, getD}
 use lib.Seq.{ext-getD}
 use Rattle.base.specs.Seq.{cell}
 use Rattle.base.proofs.Cases.{eq-or}
-use Rattle.base.proofs.Parts.{partOf, length-partOf, partOf-at}
+use Rattle.base.specs.Parts.{partOf}
+use Rattle.base.proofs.Parts.{length-partOf, partOf-at}
 use Rattle.params.specs.Nodes.{has, size, count}
 use Rattle.params.proofs.Sets.{rank-lt}
 use Rattle.code.specs.declared.Verdict.the-variants.{Agrees, Differs}

@@ -12,7 +12,8 @@ use borrow.Author.Tests.{eq-eqb, ne-eqb}
 use borrow.Rule.Slice.PartMut.{drop-put}
 use Rattle.base.specs.Seq.{cell}
 use Rattle.base.proofs.Cases.{eq-or}
-use Rattle.base.proofs.Parts.{partOf, length-partOf, putBlock, putBlock-here, putBlock-other, putBlock-length, row-ends}
+use Rattle.base.specs.Parts.{partOf, putBlock}
+use Rattle.base.proofs.Parts.{length-partOf, putBlock-here, putBlock-other, putBlock-length, row-ends}
 use Rattle.base.proofs.Seq.{cells-ext, cell-blocks, length-blocks}
 use Rattle.interpolation.proofs.Rows.{cell-take}
 use Rattle.gates.specs.Gates.{damageGate}

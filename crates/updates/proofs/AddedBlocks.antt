@@ -9,7 +9,8 @@ use native.Mathlib.Omega.{arith}
 use lib.ListN.{length, getD, take}
 use Rattle.base.specs.Seq.{cell}
 use Rattle.base.proofs.Cases.{eq-or}
-use Rattle.base.proofs.Parts.{row-ends, partOf, length-partOf, partOf-at, putBlock, putBlock-here, putBlock-other, putBlock-length}
+use Rattle.base.specs.Parts.{partOf, putBlock}
+use Rattle.base.proofs.Parts.{row-ends, length-partOf, partOf-at, putBlock-here, putBlock-other, putBlock-length}
 use Rattle.field.specs.Field.{add}
 use Rattle.params.specs.Nodes.{has, count}
 use Rattle.gates.specs.Valid.{UpdateAccepted, DeltaAccepted}

@@ -5,7 +5,8 @@ use native.Mathlib.Omega.{arith}
 use borrow.Author.Needs.{needs}
 use lib.Bits.{bitXor}
 use lib.ListN.{getD}
-use Rattle.base.proofs.Filled.{Filled, filled-none, filled-more}
+use Rattle.base.specs.Parts.{Filled}
+use Rattle.base.proofs.Filled.{filled-none, filled-more}
 use Rattle.field.specs.Field.{add}
 use Rattle.blocks.proofs.Overlap.{filled-plus}
 use Rattle.blocks.proofs.add_block.Statement.{statement}

@@ -4,7 +4,8 @@ use denote.Ref.{now}
 use native.Mathlib.Omega.{arith}
 use borrow.Author.Needs.{needs}
 use lib.ListN.{getD}
-use Rattle.base.proofs.Filled.{Filled, filled-none, filled-more}
+use Rattle.base.specs.Parts.{Filled}
+use Rattle.base.proofs.Filled.{filled-none, filled-more}
 use Rattle.blocks.proofs.Laws.{getD-default}
 use Rattle.blocks.proofs.Overlap.{filled-over}
 use Rattle.blocks.proofs.copy_block.Statement.{statement}

@@ -4,7 +4,8 @@ use Prim.Native.Nat.{ℕ, _-_, _≤_}
 use native.Mathlib.Omega.{arith}
 use borrow.Author.Needs.{needs}
 use lib.ListN.{getD}
-use Rattle.base.proofs.Filled.{Filled, filled-none, filled-more}
+use Rattle.base.specs.Parts.{Filled}
+use Rattle.base.proofs.Filled.{filled-none, filled-more}
 use Rattle.coefficients.proofs.Laws.{list-length}
 use Rattle.coefficients.proofs.Rows.{places-told}
 use Rattle.coefficients.proofs.places_of.Statement.{statement}

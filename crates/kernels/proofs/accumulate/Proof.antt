@@ -5,7 +5,8 @@ use denote.Ref.{now}
 use native.Mathlib.Omega.{arith}
 use borrow.Author.Needs.{needs}
 use lib.ListN.{length, getD}
-use Rattle.base.proofs.Parts.{partOf, partOf-at}
+use Rattle.base.specs.Parts.{partOf}
+use Rattle.base.proofs.Parts.{partOf-at}
 use Rattle.kernels.proofs.Summing.{Summed, summed-none, summed-more, summed-all, block-end}
 use Rattle.kernels.proofs.accumulate.Statement.{statement}
 use Rattle.kernels.proofs.accumulate.Tie as tie

@@ -5,7 +5,8 @@ use native.Mathlib.Omega.{arith}
 use borrow.Author.Needs.{needs}
 use lib.Bits.{bitXor}
 use lib.ListN.{length, getD}
-use Rattle.base.proofs.Filled.{Filled, filled-none, filled-more, filled-all}
+use Rattle.base.specs.Parts.{Filled}
+use Rattle.base.proofs.Filled.{filled-none, filled-more, filled-all}
 use Rattle.field.specs.Field.{add, mul}
 use Rattle.kernels.specs.Blocks.{plusMultiple}
 use Rattle.kernels.proofs.add_multiple.Statement.{statement}

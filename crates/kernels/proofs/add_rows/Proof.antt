@@ -4,7 +4,8 @@ use denote.Ref.{now}
 use native.Mathlib.Omega.{arith}
 use borrow.Author.Needs.{needs}
 use lib.ListN.{length}
-use Rattle.base.proofs.Parts.{Blocked, blocked-none, row-ends}
+use Rattle.base.specs.Parts.{Blocked}
+use Rattle.base.proofs.Parts.{blocked-none, row-ends}
 use Rattle.kernels.proofs.RowByRow.{rowAt, part-inside, row-added, rows-added}
 use Rattle.kernels.proofs.Stretches.{length-stretch}
 use Rattle.kernels.proofs.add_rows.Statement.{statement}

@@ -4,7 +4,8 @@ use Prim.Native.Nat.{_-_, _≤_}
 use native.Mathlib.Omega.{arith}
 use borrow.Author.Needs.{needs}
 use lib.ListN.{length}
-use Rattle.base.proofs.Filled.{Filled, filled-none, filled-more, filled-all}
+use Rattle.base.specs.Parts.{Filled}
+use Rattle.base.proofs.Filled.{filled-none, filled-more, filled-all}
 use Rattle.base.proofs.Seq.{tabulate-zeros}
 use Rattle.kernels.proofs.clear.Statement.{statement}
 use Rattle.kernels.proofs.clear.Tie as tie

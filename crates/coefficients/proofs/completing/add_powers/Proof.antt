@@ -7,7 +7,8 @@ use native.Mathlib.Omega.{arith}
 use borrow.Author.Needs.{needs}
 use denote.Ref.{now}
 use lib.ListN.{length, getD}
-use Rattle.base.proofs.Filled.{Filled, filled-none, filled-more, filled-all}
+use Rattle.base.specs.Parts.{Filled}
+use Rattle.base.proofs.Filled.{filled-none, filled-more, filled-all}
 use Rattle.field.specs.Field.{add, mul, pow}
 use Rattle.field.proofs.Multiplication.{mul-one-right}
 use Rattle.field.proofs.Exponents.{pow-zero, power-at}

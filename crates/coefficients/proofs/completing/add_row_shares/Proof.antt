@@ -4,7 +4,8 @@ use native.Mathlib.Omega.{arith}
 use borrow.Author.Needs.{needs}
 use denote.Ref.{now}
 use lib.ListN.{length}
-use Rattle.base.proofs.Parts.{Blocked, blocked-none, blocked-more, row-ends, length-partOf}
+use Rattle.base.specs.Parts.{Blocked}
+use Rattle.base.proofs.Parts.{blocked-none, blocked-more, row-ends, length-partOf}
 use Rattle.coefficients.proofs.Shares.{entry, row-share, rows-shared}
 use Rattle.coefficients.proofs.completing.add_row_shares.Statement.{statement}
 use Rattle.coefficients.proofs.completing.add_row_shares.Tie as tie

@@ -4,7 +4,8 @@ use native.Mathlib.Omega.{arith}
 use borrow.Author.Needs.{needs}
 use denote.Ref.{now}
 use lib.ListN.{length, getD}
-use Rattle.base.proofs.Parts.{Blocked, blocked-none, blocked-more, row-ends, length-partOf}
+use Rattle.base.specs.Parts.{Blocked}
+use Rattle.base.proofs.Parts.{blocked-none, blocked-more, row-ends, length-partOf}
 use Rattle.interpolation.specs.Lagrange.{gain}
 use Rattle.code.specs.Code.{point}
 use Rattle.coefficients.specs.Working.{pointsOf, gainRows}

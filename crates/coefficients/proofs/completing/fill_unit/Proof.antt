@@ -6,7 +6,8 @@ use borrow.Author.Needs.{needs}
 use denote.Ref.{now}
 use lib.ListN.{length, getD}
 use Rattle.base.specs.Seq.{tabulate}
-use Rattle.base.proofs.Filled.{Filled, filled-none, filled-more, filled-all}
+use Rattle.base.specs.Parts.{Filled}
+use Rattle.base.proofs.Filled.{filled-none, filled-more, filled-all}
 use Rattle.coefficients.specs.Working.{same, unitRow}
 use Rattle.coefficients.proofs.completing.fill_unit.Statement.{statement}
 use Rattle.coefficients.proofs.completing.fill_unit.Tie as tie

@@ -5,7 +5,8 @@ use native.Mathlib.Omega.{arith}
 use borrow.Author.Needs.{needs}
 use denote.Ref.{now}
 use lib.ListN.{length, getD}
-use Rattle.base.proofs.Parts.{Blocked, blocked-none, blocked-more, row-ends, partOf, length-partOf}
+use Rattle.base.specs.Parts.{Blocked, partOf}
+use Rattle.base.proofs.Parts.{blocked-none, blocked-more, row-ends, length-partOf}
 use Rattle.field.specs.Field.{pow}
 use Rattle.code.specs.Code.{point}
 use Rattle.coefficients.specs.Coefficients.{powerRows}

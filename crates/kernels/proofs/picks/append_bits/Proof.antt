@@ -4,7 +4,8 @@ use Prim.Native.Nat.{ℕ, _-_, _≤_}
 use denote.Ref.{now}
 use native.Mathlib.Omega.{arith}
 use borrow.Author.Needs.{needs}
-use Rattle.base.proofs.Parts.{Blocked, blocked-none, length-partOf}
+use Rattle.base.specs.Parts.{Blocked}
+use Rattle.base.proofs.Parts.{blocked-none, length-partOf}
 use Rattle.kernels.specs.Tiling.{longer}
 use Rattle.kernels.proofs.Lanes.{Laned, laned-none, laned-more, longer-more}
 use Rattle.kernels.proofs.picks.append_bits.Statement.{statement}

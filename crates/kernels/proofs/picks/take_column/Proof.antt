@@ -6,7 +6,8 @@ use native.Mathlib.Omega.{arith}
 use borrow.Author.Needs.{needs}
 use lib.ListN.{length}
 use Rattle.base.specs.Seq.{cell}
-use Rattle.base.proofs.Filled.{Filled, filled-none, filled-more}
+use Rattle.base.specs.Parts.{Filled}
+use Rattle.base.proofs.Filled.{filled-none, filled-more}
 use Rattle.kernels.proofs.picks.take_column.Statement.{statement}
 use Rattle.kernels.proofs.picks.take_column.Tie as tie
 

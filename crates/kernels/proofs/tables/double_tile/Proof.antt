@@ -4,7 +4,8 @@ use Prim.Native.Nat.{_-_, _≤_}
 use native.Mathlib.Omega.{arith}
 use borrow.Author.Needs.{needs}
 use lib.ListN.{getD}
-use Rattle.base.proofs.Filled.{Filled, filled-none, filled-more, filled-all}
+use Rattle.base.specs.Parts.{Filled}
+use Rattle.base.proofs.Filled.{filled-none, filled-more, filled-all}
 use Rattle.field.specs.Field.{mul}
 use Rattle.kernels.specs.Tiling.{multiple}
 use Rattle.kernels.proofs.tables.double_tile.Statement.{statement}

@@ -5,7 +5,8 @@ use denote.Ref.{now}
 use native.Mathlib.Omega.{arith}
 use borrow.Rule.Slice.PartMut.{putMid}
 use borrow.Author.Needs.{needs}
-use Rattle.base.proofs.Parts.{partOf, length-partOf}
+use Rattle.base.specs.Parts.{partOf}
+use Rattle.base.proofs.Parts.{length-partOf}
 use Rattle.blocks.proofs.Laws.{over-same}
 use Rattle.kernels.proofs.tables.set_tile.Statement.{statement}
 use Rattle.kernels.proofs.tables.set_tile.Tie as tie
