@@ -14,9 +14,8 @@ use params::Node;
 use params::NodeSet;
 ghost use mathlib.Core.Path.{_≡_};
 ghost use Prim.Native.Nat.{_-_};
-ghost use lib.ListN.{length};
 ghost use Rattle.code.specs.Code.{point};
-ghost use Rattle.coefficients.specs.Coefficients.{inOrder, placesOf, powerRows, PowersPost, ReadsPost, ExtendsPost};
+ghost use Rattle.coefficients.specs.Coefficients.{inOrder, placesOf, PowersPost, ReadsPost, ExtendsPost};
 
 // The point rule: the only place where a node's number becomes a field element.
 pub fn point(node: Node) -> Elem

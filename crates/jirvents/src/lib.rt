@@ -15,7 +15,6 @@ use params::Params;
 use params::Shape;
 use updates::delta;
 use updates::update;
-ghost use mathlib.Core.Path.{_≡_};
 ghost use Rattle.code.specs.Calls.{EncodePost, DecodePost, DeltaPost, UpdatePost, RepairPost, ReconfigurePost};
 ghost use Rattle.jirvents.specs.Exports.{params, shape, CheckGave, ViewGave, InvertGave};
 
