@@ -5,7 +5,7 @@
  * slack r - k parts, a codeword n blocks, that of node 1 first. A node set is a number of 32 bits in which node i is worth 2^(i-1).
  *
  * Every number, set and length may be given. Each function puts its questions, told at its declaration, and answers 0 (JIRVENTS_SERVED), or the number of the
- * first whose answer is no; it then writes nothing. The questions are put in the order of the enum below, which is not that of the numbers: 1 to 5, 11 to 14,
+ * first whose answer is no; it then writes nothing, but for the column that goes with 15. The questions are put in the order of the enum below, which is not that of the numbers: 1 to 5, 11 to 14,
  * 16, 6, 7, 8, 9, 10, 15.
  *
  * A slice is a pointer and a length in bytes. Its pointer must be valid for that many bytes (and not null, also for length 0), and slices that are written must

@@ -518,7 +518,8 @@ pub fn invert(side: usize, matrix: &[u8], out: &mut [u8]) -> Result<(), InvertEr
 mod tests {
     use super::raw::{jirvents_check, jirvents_invert, jirvents_view};
 
-    /// Check and view on a codeword of these lengths, for (1,2,2,3) and b = 2.
+    /// Check and view at (1,2,2,3) with this b, on a codeword of this length; 99 stands
+    /// where nothing was written.
     fn check_and_view(b: usize, length: usize, node: u8) -> [(u32, usize); 2] {
         let codeword = [7; 8];
         let (mut differing, mut start) = (99, 99);

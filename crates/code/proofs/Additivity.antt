@@ -17,12 +17,6 @@ pub block-byte : (a : Params) (x v : List ℕ) (i p : ℕ) → IsByte (block a x
 unfolding block
 block-byte a x v i p = evaluate-byte (a .k) (slackParts a) _ _ (point i)
 
--- only the bytes of the place itself count
-pub block-ext : (a : Params) (x x′ v v′ : List ℕ) (i p : ℕ) → ((j : ℕ) → j < a .k → cell (a .b) x j p ≡ cell (a .b) x′ j p)
-    → ((j : ℕ) → j < slackParts a → cell (a .b) v j p ≡ cell (a .b) v′ j p) → block a x v i p ≡ block a x′ v′ i p
-unfolding block
-block-ext a x x′ v v′ i p = evaluate-ext (a .k) (slackParts a) _ _ _ _ (point i)
-
 -- ---- sums byte by byte
 
 unfoldable pub plus : List ℕ → List ℕ → List ℕ

@@ -20,7 +20,7 @@ use Rattle.kernels.specs.Blocks.{Added}
 use Rattle.coefficients.specs.Coefficients.{listed, pointAt, inOrder, powerRows, Roomy, ExtendsPost}
 use Rattle.coefficients.specs.Working.{pointsOf, remaining, Carries, Shared, Sharable, Completed, Completable}
 use Rattle.coefficients.proofs.Laws.{buffer-front, size-most, length-listed, length-powerRows, powerRows-at, fits-first, product-first}
-use Rattle.coefficients.proofs.Solve.{listed-points}
+use Rattle.coefficients.proofs.Values.{listed-points}
 
 -- ---- the share of the leading coefficients
 

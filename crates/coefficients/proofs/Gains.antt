@@ -25,17 +25,8 @@ use Rattle.interpolation.specs.Lagrange.{product, factor, apart, gain}
 use Rattle.interpolation.proofs.Lagrange.{product-ext, apart-byte, apart-elsewhere, apart-nonzero, apart-whole, lagrange}
 use Rattle.code.specs.Code.{point}
 use Rattle.coefficients.specs.Working.{pointsOf, unit, same, unitRow, gainRow, gainRows, Missing, Listed, Weighed, Weighable, Carries}
-use Rattle.coefficients.proofs.Solve.{length-pointsOf, pointsOf-at}
+use Rattle.coefficients.proofs.Values.{length-pointsOf, pointsOf-at, point-byte, point-nonzero}
 use Rattle.coefficients.proofs.Rows.{tabulated}
-
--- ---- points
-
-module _ (nodes : List ℕ) (points : Points (pointsOf nodes)) (i : ℕ) (hi : i < length nodes) where
-  point-byte : IsByte (point (getD nodes i 0))
-  point-byte = subst IsByte (pointsOf-at nodes i hi) (points .bytes i)
-
-  pub point-nonzero : point (getD nodes i 0) ≡ 0 → ⊥
-  point-nonzero z = points .nonzero i (omega (arith, length-pointsOf nodes)) (pointsOf-at nodes i hi ∙ z)
 
 -- ---- products by the sums of exponents
 

@@ -1,7 +1,7 @@
 pub mod Laws
 mod Rows
-mod Solve
-mod Lagrange
+pub mod Values
+mod Basis
 mod Gains
 mod Completion
 mod Shares

@@ -17,7 +17,8 @@ ghost use Rattle.interpolation.specs.Polynomial.{Points};
 ghost use Rattle.interpolation.specs.Lagrange.{factor, apart};
 ghost use Rattle.coefficients.specs.Working.{pointsOf, same, unitRow, gainRow, gainRows, Missing, Listed, Weighed, Weighable, Findable, Carries, Carriable, withPowers, withShare, Shared, Sharable, Completed, Completable};
 
-// What the leading coefficients give at the nodes of `at` does not belong to the others, so its share is added to leading.
+// leading and gains := the rows that take leading coefficients, and values at the nodes of `at`, to values at the targets. The gains take all that stands at
+// the nodes, the leading coefficients' part too; that part is taken off again by adding its share to leading.
 pub(crate) fn complete(
     logs: &[u8],
     exps: &[u8],

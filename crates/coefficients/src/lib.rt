@@ -77,6 +77,7 @@ pub fn places_of(set: NodeSet) -> [u8; 32]
     places
 }
 
+// The block number of a node; 0 for no node.
 fn one_less(node: u8) -> u8
     ensures { λ r. ⌜ r ≡ node - 1 ⌝ }
 {

@@ -1,4 +1,4 @@
-// Products through exponents: 02^a · 02^b = 02^(a + b), and 02^255 = 01. The tables of powers and of exponents are lent, so that a call copies them once.
+// Products through exponents: 02^a · 02^b = 02^(a + b), and 02^255 = 01. The tables of powers and of exponents are lent, so that they are copied once and not at each product.
 use base::wide;
 ghost use mathlib.Core.Path.{_≡_};
 ghost use Prim.Native.Nat.{_<_};

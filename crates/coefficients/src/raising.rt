@@ -41,6 +41,7 @@ fn fill_powers(logs: &[u8], exps: &[u8], c: u8, e: usize, out: &mut [u8])
     fill_from(exps, l, (l * (e % 255)) % 255, out);
 }
 
+// out := 0
 fn clear(out: &mut [u8])
     ensures { λ _. ⌜ now (out .exit) ≡ replicate (length (now (out .entry))) 0 ⌝ }
 {

@@ -3,6 +3,7 @@
 mod log_table;
 mod power_table;
 
+use base::wide;
 ghost use mathlib.Core.Path.{_≡_};
 ghost use Prim.Native.Nat.{_<_};
 ghost use Rattle.field.specs.Field.{add, mul, pow, Inverse, PowerTable, LogTable};
@@ -92,12 +93,6 @@ fn log(a: u8) -> usize
 {
     let table = logs();
     wide(table[wide(a)])
-}
-
-fn wide(x: u8) -> usize
-    ensures { λ r. ⌜ r ≡ x ⌝ }
-{
-    x as usize
 }
 
 // 02·x, with no branch and no table, so that a loop over bytes becomes vector code.

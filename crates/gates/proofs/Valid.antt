@@ -41,10 +41,6 @@ pub working-le : (a : Params) → Valid a → working a ≤ a .n
 unfolding working
 working-le a v = omega arith
 
-pub working-low : (a : Params) → Valid a → 1 ≤ working a
-unfolding working
-working-low a v = omega arith
-
 -- what Params::working answers
 pub working-held : (a : Params) → Valid a → min (working a) (2 ^ 64 - 1) ≡ a .r
 working-held a v = min-eq-left (omega (arith, working-le a v)) ∙ working-is a v

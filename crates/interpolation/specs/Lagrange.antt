@@ -1,5 +1,5 @@
 -- Lagrange's basis polynomials, by their values: each is 01 at one of the points and 00 at the others. e is the number of leading coefficients; these
--- polynomials have none of them, so that each has the factor z^(e+1). Assumes nothing.
+-- polynomials have none of them, so that each has the factor z^(e+1). A sum is a difference here, since a + a = 00. Assumes nothing.
 use mathlib.Core.Bool.{Bool, true, false}
 use mathlib.Core.List.{List}
 use Prim.Native.Nat.{ℕ, zero, suc}

@@ -1,2 +1,2 @@
 mod Gave
-mod Settled
+pub mod Settled

@@ -19,10 +19,10 @@ use Rattle.field.proofs.FiniteSum.{sum-zero, sum-suc, sum-ext}
 use Rattle.field.proofs.Multiplication.{mul-zero-left, mul-one-left}
 use Rattle.blocks.specs.Bytes.{plus, over}
 use Rattle.blocks.proofs.Laws.{plus-length, plus-at, over-same}
-use Rattle.kernels.specs.Blocks.{Inside, stretch}
+use Rattle.kernels.specs.Blocks.{Inside}
 use Rattle.kernels.specs.Tiling.{number, columns, tileAt, Raised, Chosen, Tabled}
 use Rattle.kernels.proofs.Digits.{number-below, number-front}
-use Rattle.kernels.proofs.Stretches.{length-stretch, stretch-at}
+use Rattle.kernels.proofs.Stretches.{stretch, length-stretch, stretch-at}
 
 -- w bytes from `at` on of a block that src has
 pub stretch-ends : (b at w j src : ℕ) (places : List ℕ) → at + w ≤ b → j < length places → Inside b places src → getD places j 0 * b + at + w ≤ src

@@ -11,8 +11,8 @@ use Rattle.base.proofs.Seq.{cell-lt}
 use Rattle.field.specs.Field.{add, mul}
 use Rattle.field.proofs.Addition.{add-zero-left}
 use Rattle.field.proofs.FiniteSum.{sum-ext}
-use Rattle.kernels.specs.Blocks.{product, Fits, Multiplied, Added, Inside, rowOf, combined, Accumulated}
-use Rattle.kernels.proofs.Stretches.{stretch-at}
+use Rattle.kernels.specs.Blocks.{product, Fits, Multiplied, Added, Inside, combined, Accumulated}
+use Rattle.kernels.proofs.Stretches.{rowOf, stretch-at}
 
 rowOf-at : (stride width i : ℕ) (coeffs : List ℕ) (j : ℕ) → j < width → getD (rowOf stride width i coeffs) j 0 ≡ cell stride coeffs i j
 unfolding cell

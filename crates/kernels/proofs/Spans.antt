@@ -21,11 +21,11 @@ use Rattle.field.proofs.FiniteSum.{sum-zero, sum-zeros, sum-last, sum-ext, sum-
 use Rattle.field.proofs.Multiplication.{mul-zero-left}
 use Rattle.blocks.specs.Bytes.{plus}
 use Rattle.blocks.proofs.Laws.{plus-length, plus-at}
-use Rattle.kernels.specs.Blocks.{product, Fits, Added, stretch}
+use Rattle.kernels.specs.Blocks.{product, Fits, Added}
 use Rattle.kernels.specs.Tiling.{bit, number, columns, multiple, tileAt, Tabled, Picked, named, byBits, Gathered, Reached, Spanned}
 use Rattle.kernels.proofs.Digits.{bit-lt, number-below, number-bits, digit-times, grouped}
 use Rattle.kernels.proofs.RowByRow.{rowAt}
-use Rattle.kernels.proofs.Stretches.{length-stretch, stretch-at}
+use Rattle.kernels.proofs.Stretches.{stretch, length-stretch, stretch-at}
 
 -- ---- entries summed up one after the other
 

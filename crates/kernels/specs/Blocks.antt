@@ -2,8 +2,8 @@
 use mathlib.Core.Path.{_≡_}
 use mathlib.Core.Bool.{Bool, true, false}
 use mathlib.Core.List.{List}
-use Prim.Native.Nat.{ℕ, suc, _+_, _-_, _*_, _≤_, _<_}
-use lib.ListN.{length, getD, take, drop}
+use Prim.Native.Nat.{ℕ, suc, _+_, _*_, _≤_, _<_}
+use lib.ListN.{length, getD}
 use Rattle.base.specs.Seq.{tabulate, cell}
 use Rattle.field.specs.Field.{add, mul}
 use Rattle.field.specs.FiniteSum.{sum}
@@ -49,14 +49,6 @@ Inside b places src = (j : ℕ) → j < length places → suc (getD places j 0) 
 pub record Decided (P : Type 0) (answer : Bool) : Type 0 where
   pub holds : answer ≡ true → P
   pub fails : answer ≡ false → P → ⊥
-
--- the n bytes of xs from a on, as the code lends them
-abbrev pub stretch : ℕ → ℕ → List ℕ → List ℕ
-stretch a n xs = take (a + n - a) (drop a xs)
-
--- row i of the coefficients
-abbrev pub rowOf : ℕ → ℕ → ℕ → List ℕ → List ℕ
-rowOf stride width i coeffs = stretch (i * stride) width coeffs
 
 -- xs + c·ys, byte by byte
 unfoldable pub plusMultiple : List ℕ → ℕ → List ℕ → List ℕ

@@ -9,7 +9,7 @@ use base::wide;
 use field::times;
 ghost use mathlib.Core.Path.{_≡_};
 ghost use mathlib.Core.Bool.{false};
-ghost use Prim.Native.Nat.{_≤_, _<_};
+ghost use Prim.Native.Nat.{_≤_};
 ghost use lib.ListN.{length, replicate};
 ghost use Rattle.kernels.specs.Blocks.{Fits, Multiplied, Added};
 ghost use Rattle.kernels.specs.Blocks.{Rows, Inside, Decided, plusMultiple, Accumulated};

@@ -1,7 +1,7 @@
 // Which entries of the groups' tables a row of coefficients sums. Of each group of four columns, and each of the eight bits of a coefficient, the four bits are one
 // number: the pick. The picks of up to 32 rows stand side by side, so that they are found for all rows at once.
 ghost use mathlib.Core.Path.{_≡_};
-ghost use Prim.Native.Nat.{_+_, _*_, _≤_};
+ghost use Prim.Native.Nat.{_+_, _≤_};
 ghost use lib.ListN.{length, replicate};
 ghost use Rattle.base.specs.Seq.{cell};
 ghost use Rattle.base.specs.Parts.{Filled, Blocked};
@@ -49,7 +49,7 @@ fn append_bits(picks: &mut [u8], lanes: &mut [u8])
         let at = s * 32;
         let end = at + 32;
         append_bit(&mut picks[at..end], lanes);
-        double_lanes(lanes);
+        shift_lanes(lanes);
         s += 1;
     }
 }
@@ -67,7 +67,7 @@ fn append_bit(picks: &mut [u8], lanes: &[u8])
 }
 
 // Each lane loses its top bit.
-fn double_lanes(lanes: &mut [u8])
+fn shift_lanes(lanes: &mut [u8])
     requires { ⌜ length (now lanes) ≡ 32 ⌝ }
     ensures { λ _. ⌜ now (lanes .exit) ≡ shifted (now (lanes .entry)) ⌝ }
 {

@@ -5,4 +5,4 @@ mod Kernel
 mod Loading
 mod Bridge
 mod Answers
-mod Examples
+pub mod Examples

@@ -217,10 +217,6 @@ pub within-size : (n s : ℕ) → within n s ≡ true → size s ≡ count (has 
 unfolding within
 within-size n s e = size-count n s (ltb-true s (2 ^ n) e)
 
-pub within-nodes : (n s : ℕ) → n ≤ 32 → within n s ≡ true → nodes (has s) 32 ≡ nodes (has s) n
-unfolding within
-within-nodes n s h e = nodes-stop (has s) n 32 h (λ j hj hk. has-past n s j (ltb-true s (2 ^ n) e) hj)
-
 both-bits : (x y : ℕ) → x < 2 → y < 2 → eqb (min x y) 1 ≡ (eqb x 1 && eqb y 1)
 both-bits zero y hx hy = ap (λ (m : ℕ). eqb m 1) (zero-min y)
 both-bits (suc zero) zero hx hy = refl

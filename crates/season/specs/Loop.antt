@@ -7,8 +7,9 @@ use Rattle.season_run.specs.Season.{Season}
 use Rattle.season_run.specs.Program.{Calls}
 use Rattle.season_run.specs.declared.Next.{Next}
 
--- The program's calls were made one after the other in the buffers, and what they gave to be written is the front of the input's output; all of it, if every
--- line was written.
+-- The program's calls were made one after the other in the buffers. What their lines hold is the front of the input's output; all of it, if the answer is yes.
+-- That the lines are given to write, and that the answer is no only after a write that failed, is not said here: write has no contract. The gate runs the
+-- program.
 pub record Printed (input buffer line : List ℕ) (written : Bool) (buffer′ line′ : List ℕ) : Type 0 where
   pub lines : List ℕ
   pub next : Next

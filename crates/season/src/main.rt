@@ -25,7 +25,8 @@ fn run(input: &[u8]) {
     run_within(input, &mut codeword, &mut line);
 }
 
-// Writes each turn's line until the run ends. The answer is whether all were written; after one that was not, it stops.
+// Writes each turn's line until the run ends; after a write that fails it stops and answers no. That the calls are the right ones, to the end, is proved
+// (Printed); that their lines are written is tested.
 fn run_within(input: &[u8], codeword: &mut [u8], line: &mut [u8]) -> bool
     requires { ⌜ Room (now codeword) (now line) ⌝ }
     ensures { λ r. ⌜ Printed (now (input .entry)) (now (codeword .entry)) (now (line .entry)) r (now (codeword .exit)) (now (line .exit)) ⌝ }

@@ -40,6 +40,7 @@ pub fn update(a: Params, codeword: &mut [u8], change: &[u8], to: NodeSet) -> u32
     0
 }
 
+// An accepted difference: makes room for the rows and lends it.
 fn write_differences(a: Params, change: &[u8], to: NodeSet, out: &mut [u8])
     requires { ⌜ DeltaAccepted a (length (now change)) (length (now out)) (to .0) ⌝ }
     ensures { λ _. ⌜ Differences a (now (change .entry)) (to .0) (now (out .exit)) ⌝ }

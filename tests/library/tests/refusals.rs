@@ -77,7 +77,7 @@ fn moved(k: usize, r: usize, w: usize, n: usize) -> Refusal {
     reconfigure(p, shape, &[0; 3], 3, 3, &[0], &mut [0; 3]).unwrap_err()
 }
 
-/// A refused call for each question but those of the inverse.
+/// A refused call for each question but 15 and 16, in the order of the numbers.
 fn refusals() -> Vec<Refusal> {
     let p = params(1, 2, 2, 3, 1);
     let refused = |p| encode(p, &[0], &[0], &mut [0; 3]).unwrap_err();

@@ -7,7 +7,7 @@ use denote.Ref.{now}
 use lib.ListN.{take}
 use Rattle.coefficients.specs.Coefficients.{listed}
 use Rattle.coefficients.proofs.Laws.{areas-fit, size-most, front-fits, front-count, front-is}
-use Rattle.coefficients.proofs.Solve.{listed-readable, reads-kept, reads-made}
+use Rattle.coefficients.proofs.Values.{listed-readable, reads-kept, reads-made}
 use Rattle.coefficients.proofs.reading_rows.Statement.{statement}
 use Rattle.coefficients.proofs.reading_rows.Tie as tie
 

@@ -6,7 +6,7 @@ use borrow.Author.Needs.{needs}
 use denote.Ref.{now}
 use lib.ListN.{length}
 use Rattle.coefficients.specs.Working.{withShare}
-use Rattle.coefficients.proofs.Gains.{point-nonzero}
+use Rattle.coefficients.proofs.Values.{point-nonzero}
 use Rattle.coefficients.proofs.Shares.{share-none, share-length, share-more}
 use Rattle.coefficients.proofs.completing.add_row_share.Statement.{statement}
 use Rattle.coefficients.proofs.completing.add_row_share.Tie as tie

@@ -10,7 +10,8 @@ use Rattle.interpolation.specs.Lagrange.{gain}
 use Rattle.code.specs.Code.{point}
 use Rattle.coefficients.specs.Working.{pointsOf, gainRows}
 use Rattle.coefficients.proofs.Rows.{blocked-whole}
-use Rattle.coefficients.proofs.Gains.{point-nonzero, row-gains}
+use Rattle.coefficients.proofs.Values.{point-nonzero}
+use Rattle.coefficients.proofs.Gains.{row-gains}
 use Rattle.coefficients.proofs.completing.fill_gains.Statement.{statement}
 use Rattle.coefficients.proofs.completing.fill_gains.Tie as tie
 

@@ -6,7 +6,8 @@ use borrow.Author.Needs.{needs}
 use denote.Ref.{now}
 use lib.ListN.{length, length-set}
 use Rattle.coefficients.specs.Working.{Weighed}
-use Rattle.coefficients.proofs.Gains.{point-nonzero, weighed-none, weighed-more}
+use Rattle.coefficients.proofs.Values.{point-nonzero}
+use Rattle.coefficients.proofs.Gains.{weighed-none, weighed-more}
 use Rattle.coefficients.proofs.completing.weigh.Statement.{statement}
 use Rattle.coefficients.proofs.completing.weigh.Tie as tie
 

@@ -6,7 +6,7 @@ use borrow.Author.Needs.{needs}
 use denote.Ref.{now}
 use lib.ListN.{length, getD, length-set}
 use Rattle.field.specs.Field.{add, pow}
-use Rattle.coefficients.proofs.Lagrange.{Dividing, dividing-none, dividing-more, divided}
+use Rattle.coefficients.proofs.Basis.{Dividing, dividing-none, dividing-more, divided}
 use Rattle.coefficients.proofs.reading.divide.Statement.{statement}
 use Rattle.coefficients.proofs.reading.divide.Tie as tie
 

@@ -12,8 +12,8 @@ use Rattle.field.proofs.Exponents.{pow-add}
 use Rattle.code.specs.Code.{point}
 use Rattle.coefficients.specs.Working.{Divided, Column}
 use Rattle.coefficients.proofs.Laws.{buffer-front, buffer-count}
-use Rattle.coefficients.proofs.Solve.{point-nonzero}
-use Rattle.coefficients.proofs.Lagrange.{own-nonzero, basis-put}
+use Rattle.coefficients.proofs.Values.{point-nonzero}
+use Rattle.coefficients.proofs.Basis.{own-nonzero, basis-put}
 use Rattle.coefficients.proofs.reading.fill_column.Statement.{statement}
 use Rattle.coefficients.proofs.reading.fill_column.Tie as tie
 

@@ -6,7 +6,7 @@ use borrow.Author.Needs.{needs}
 use denote.Ref.{now}
 use lib.ListN.{length}
 use Rattle.coefficients.specs.Working.{BasisRows}
-use Rattle.coefficients.proofs.Lagrange.{basis-more}
+use Rattle.coefficients.proofs.Basis.{basis-more}
 use Rattle.coefficients.proofs.reading.fill_columns.Statement.{statement}
 use Rattle.coefficients.proofs.reading.fill_columns.Tie as tie
 

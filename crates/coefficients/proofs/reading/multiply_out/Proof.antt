@@ -6,8 +6,8 @@ use borrow.Author.Needs.{needs}
 use denote.Ref.{now}
 use lib.ListN.{length, length-set}
 use Rattle.coefficients.specs.Working.{Product}
-use Rattle.coefficients.proofs.Solve.{point-nonzero}
-use Rattle.coefficients.proofs.Lagrange.{product-none, product-more}
+use Rattle.coefficients.proofs.Values.{point-nonzero}
+use Rattle.coefficients.proofs.Basis.{product-none, product-more}
 use Rattle.coefficients.proofs.reading.multiply_out.Statement.{statement}
 use Rattle.coefficients.proofs.reading.multiply_out.Tie as tie
 

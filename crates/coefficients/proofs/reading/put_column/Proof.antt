@@ -7,7 +7,7 @@ use denote.Ref.{now}
 use lib.ListN.{length}
 use Rattle.base.proofs.Seq.{cell-lt}
 use Rattle.field.specs.Field.{pow}
-use Rattle.coefficients.proofs.Lagrange.{Columned, columned-none, columned-more, columned-all}
+use Rattle.coefficients.proofs.Basis.{Columned, columned-none, columned-more, columned-all}
 use Rattle.coefficients.proofs.reading.put_column.Statement.{statement}
 use Rattle.coefficients.proofs.reading.put_column.Tie as tie
 

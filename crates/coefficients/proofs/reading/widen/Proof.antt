@@ -6,7 +6,7 @@ use borrow.Author.Needs.{needs}
 use denote.Ref.{now}
 use lib.ListN.{getD, length-set}
 use Rattle.field.specs.Field.{add, pow}
-use Rattle.coefficients.proofs.Lagrange.{Widening, widening-none, widening-more, widened}
+use Rattle.coefficients.proofs.Basis.{Widening, widening-none, widening-more, widened}
 use Rattle.coefficients.proofs.reading.widen.Statement.{statement}
 use Rattle.coefficients.proofs.reading.widen.Tie as tie
 

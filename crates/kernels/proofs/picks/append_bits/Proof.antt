@@ -40,8 +40,8 @@ append-bit-requires c κs =
     let l = c .before .before .before .loop in
     (length-partOf 32 (l .s) (l .picks) (omega (arith, l .inv .1 .same)), l .inv .2 .size)
 
-double-lanes-requires : tie.Need-double-lanes-requires Inv-loop μ-loop
-double-lanes-requires c κs = c .before .before .before .before .before .before .before .loop .inv .2 .size
+shift-lanes-requires : tie.Need-shift-lanes-requires Inv-loop μ-loop
+shift-lanes-requires c κs = c .before .before .before .before .before .before .before .loop .inv .2 .size
 
 add-s : tie.Need-add-s Inv-loop μ-loop
 add-s c = search needs
@@ -55,7 +55,7 @@ loop-again c =
     let l = c .before .before .before .before .before .before .before .before .before .before .loop in (
       omega arith,
       longer-more (l .s) (now (s .args .picks)) (l .picks) (now (s .args .lanes)) (l .lanes) _ (omega arith) (s .pre .0) (l .inv .2) (c .before .before .before .before .before .before .append-bit .ensures) (l .inv .1),
-      laned-more (l .s) _ (l .lanes) _ (c .before .before .double-lanes .ensures) (l .inv .2),
+      laned-more (l .s) _ (l .lanes) _ (c .before .before .shift-lanes .ensures) (l .inv .2),
     )
 
 same-length : tie.Need-same-length Inv-loop μ-loop
@@ -83,7 +83,7 @@ append-bits-spec =
     part-append-bit-start
     part-append-bit-end
     append-bit-requires
-    double-lanes-requires
+    shift-lanes-requires
     add-s
     loop-less
     loop-again

@@ -7,11 +7,11 @@ use native.Mathlib.Omega.{arith}
 use borrow.Author.Needs.{needs}
 use lib.ListN.{length, getD}
 use lib.Pow.{pow-mono}
-use Rattle.kernels.specs.Blocks.{stretch}
 use Rattle.kernels.specs.Tiling.{tileAt, Chosen}
 use Rattle.kernels.proofs.Choices.{stretch-ends, stretch-tile, tile-byte, chosen-none, chosen-more, chosen-all}
 use Rattle.kernels.proofs.tables.fill_group.Statement.{statement}
 use Rattle.kernels.proofs.tables.fill_group.Tie as tie
+use Rattle.kernels.proofs.Stretches.{stretch}
 
 abbrev Inv-loop : tie.InvT-loop
 Inv-loop table₀ b at w src places t₀ half₀ table t half =

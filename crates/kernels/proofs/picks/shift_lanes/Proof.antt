@@ -7,8 +7,8 @@ use lib.ListN.{getD}
 use Rattle.base.specs.Parts.{Filled}
 use Rattle.base.proofs.Filled.{filled-none, filled-more, filled-all}
 use Rattle.kernels.specs.Tiling.{shifted}
-use Rattle.kernels.proofs.picks.double_lanes.Statement.{statement}
-use Rattle.kernels.proofs.picks.double_lanes.Tie as tie
+use Rattle.kernels.proofs.picks.shift_lanes.Statement.{statement}
+use Rattle.kernels.proofs.picks.shift_lanes.Tie as tie
 
 abbrev Inv-loop : tie.InvT-loop
 Inv-loop lanes₀ i₀ lanes i = (i ≤ 32) × Filled (λ q. getD lanes₀ q 0 % 128 * 2) i lanes₀ lanes
@@ -47,8 +47,8 @@ returns : tie.Need-returns Inv-loop μ-loop
 unfolding shifted
 returns c = filled-all _ _ _ _ (omega arith) (c .before .loop .inv .1)
 
-pub double-lanes-spec : {M : Type 1} → statement M
-double-lanes-spec =
+pub shift-lanes-spec : {M : Type 1} → statement M
+shift-lanes-spec =
     tie.close
     (tie.spec
     Inv-loop

@@ -21,7 +21,7 @@ use Rattle.interpolation.specs.Polynomial.{value, Points}
 use Rattle.interpolation.proofs.Horner.{value-byte, sum-value, value-product, other-zero, vanishing}
 use Rattle.code.specs.Code.{point}
 use Rattle.coefficients.specs.Working.{pointsOf, Widened, Product, Divided, Column, columnAt, BasisColumn, BasisRows, BasisPut}
-use Rattle.coefficients.proofs.Solve.{length-pointsOf, pointsOf-at, point-byte, gap-nonzero}
+use Rattle.coefficients.proofs.Values.{length-pointsOf, pointsOf-at, point-byte, gap-nonzero}
 
 -- two zeros give a zero
 zero-term : (x a b : ℕ) → a ≡ 0 → b ≡ 0 → add a (mul x b) ≡ 0
