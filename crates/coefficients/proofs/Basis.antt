@@ -17,7 +17,8 @@ use Rattle.field.proofs.Addition.{add-byte, add-self, add-zero-left, add-zero-r
 use Rattle.field.proofs.Multiplication.{mul-byte, mul-comm, mul-assoc, mul-zero-left, mul-zero-right}
 use Rattle.field.proofs.Exponents.{pow-one}
 use Rattle.field.proofs.FiniteSum.{sum-ext, mul-sum}
-use Rattle.interpolation.specs.Polynomial.{value, Points}
+use Rattle.interpolation.specs.Polynomial.{Points}
+use Rattle.interpolation.specs.Lagrange.{value}
 use Rattle.interpolation.proofs.Horner.{value-byte, sum-value, value-product, other-zero, vanishing}
 use Rattle.code.specs.Code.{point}
 use Rattle.coefficients.specs.Working.{pointsOf, Widened, Product, Divided, Column, columnAt, BasisColumn, BasisRows, BasisPut}

@@ -8,8 +8,8 @@ use lib.ListN.{length, getD}
 use Rattle.base.specs.Seq.{tabulate, cell, blocks}
 use Rattle.field.specs.Field.{IsByte, add, mul, pow}
 use Rattle.field.specs.FiniteSum.{sum}
-use Rattle.interpolation.specs.Polynomial.{evaluate, value, Points}
-use Rattle.interpolation.specs.Lagrange.{apart, gain}
+use Rattle.interpolation.specs.Polynomial.{evaluate, Points}
+use Rattle.interpolation.specs.Lagrange.{value, apart, gain}
 use Rattle.code.specs.Code.{point}
 
 -- c^(e+1), c^(e+2), .., c^(e+m)

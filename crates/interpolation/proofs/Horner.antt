@@ -12,7 +12,8 @@ use Rattle.field.proofs.Addition.{add-byte, add-comm, add-assoc, add-self, add-
 use Rattle.field.proofs.Multiplication.{mul-byte, mul-comm, mul-assoc, mul-add-left, mul-add-right, mul-zero-left, mul-zero-right, mul-one-left}
 use Rattle.field.proofs.Exponents.{pow-suc, mul-cancel, inverse-exists}
 use Rattle.field.proofs.FiniteSum.{sum-ext}
-use Rattle.interpolation.specs.Polynomial.{value, Points}
+use Rattle.interpolation.specs.Polynomial.{Points}
+use Rattle.interpolation.specs.Lagrange.{value}
 
 pub value-byte : (p : List ℕ) (z : ℕ) → Bytes p → IsByte (value p z)
 unfolding value

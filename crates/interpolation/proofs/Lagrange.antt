@@ -17,8 +17,8 @@ use Rattle.field.proofs.Addition.{add-byte, add-self, add-zero-left, add-zero-r
 use Rattle.field.proofs.Multiplication.{mul-byte, mul-comm, mul-assoc, mul-add-left, mul-zero-left, mul-zero-right, mul-one-right}
 use Rattle.field.proofs.Exponents.{pow-byte, pow-nonzero, mul-nonzero, inverse-power}
 use Rattle.field.proofs.FiniteSum.{sum-ext, sum-byte, sum-zeros, sum-add, mul-sum, sum-mul, sum-exchange, sum-one}
-use Rattle.interpolation.specs.Polynomial.{value, Points}
-use Rattle.interpolation.specs.Lagrange.{product, unless, factor, apart, gain}
+use Rattle.interpolation.specs.Polynomial.{Points}
+use Rattle.interpolation.specs.Lagrange.{value, product, unless, factor, apart, gain}
 use Rattle.interpolation.proofs.Horner.{value-byte, sum-value, times, length-times, times-bytes, value-times}
 use Rattle.interpolation.proofs.Kernel.{kernel}
 

@@ -1,11 +1,16 @@
 -- Lagrange's basis polynomials, by their values: each is 01 at one of the points and 00 at the others. e is the number of leading coefficients; these
 -- polynomials have none of them, so that each has the factor z^(e+1). A sum is a difference here, since a + a = 00. Assumes nothing.
 use mathlib.Core.Bool.{Bool, true, false}
-use mathlib.Core.List.{List}
+use mathlib.Core.List.{List, [], _∷_}
 use Prim.Native.Nat.{ℕ, zero, suc}
 use lib.Dec.{eqb}
 use lib.ListN.{length, getD}
 use Rattle.field.specs.Field.{add, mul, pow}
+
+-- the value at z of the polynomial whose coefficients, from the power 0 on, are listed; by Horner's rule
+unfoldable pub value : List ℕ → ℕ → ℕ
+value [] z = 0
+value (a ∷ p) z = add a (mul z (value p z))
 
 -- f 0 · f 1 · .. · f (n - 1)
 unfoldable pub product : ℕ → (ℕ → ℕ) → ℕ

@@ -1,6 +1,6 @@
 -- Polynomials without a constant term, by their leading and their remaining coefficients. Assumes nothing.
 use mathlib.Core.Path.{_≡_}
-use mathlib.Core.List.{List, [], _∷_}
+use mathlib.Core.List.{List}
 use Prim.Native.Nat.{ℕ, suc, _+_, _*_, _<_}
 use lib.ListN.{length, getD}
 use Rattle.base.specs.Seq.{cell}
@@ -11,11 +11,6 @@ use Rattle.field.specs.FiniteSum.{sum}
 -- x 0 stands for x_1.
 unfoldable pub evaluate : ℕ → ℕ → (ℕ → ℕ) → (ℕ → ℕ) → ℕ → ℕ
 evaluate e m x v c = add (sum e (λ j. mul (x j) (pow c (suc j)))) (sum m (λ j. mul (v j) (pow c (e + suc j))))
-
--- the value at z of the polynomial whose coefficients, from the power 0 on, are listed; by Horner's rule
-unfoldable pub value : List ℕ → ℕ → ℕ
-value [] z = 0
-value (a ∷ p) z = add a (mul z (value p z))
 
 -- Points at which a polynomial may be told: bytes, not 00, and no two of them equal.
 pub record Points (ps : List ℕ) : Type 0 where
