@@ -7,7 +7,7 @@ use Prim.Native.Nat.{ℕ, suc, _-_, _*_, _^_, min, _≤_, _<_}
 use native.Mathlib.Nat.{le-refl}
 use native.Mathlib.Omega.{arith}
 use lib.Dec.{leb}
-use lib.ListN.{length, getD, take, drop, length-append}
+use lib.ListN.{length, getD, take, drop, replicate, length-append, length-replicate}
 use lib.Seq.{getD-take}
 use Rattle.base.specs.Seq.{cell}
 use Rattle.field.specs.Field.{add, mul, pow}
@@ -26,9 +26,10 @@ use Rattle.params.proofs.Sets.{node-at-rank, count-ext, range-yes, count-range,
 use Rattle.gates.proofs.Valid.{working-is, working-le, working-held}
 use Rattle.code.specs.Code.{point, block}
 use Rattle.code.specs.Calls.{Encoded}
-use Rattle.kernels.specs.Blocks.{Fits, Multiplied}
+use Rattle.kernels.specs.Blocks.{Fits, Added}
+use Rattle.kernels.proofs.Arriving.{ordered-product}
 use Rattle.coefficients.specs.Coefficients.{listed, inOrder, powerRows}
-use Rattle.coefficients.proofs.Laws.{cell-front, Lists, list-at, length-powerRows, powerRows-at, fits-first, product-first}
+use Rattle.coefficients.proofs.Laws.{areas-fit, cell-front, Lists, list-at, length-powerRows, powerRows-at, product-fits, first-length, first-at, first-inside, product-first}
 
 -- ---- the nodes 1..n
 
@@ -47,46 +48,62 @@ module _ (n all : ℕ) (small : n ≤ 32) (is : (i : ℕ) → has all i ≡ (out
       getD-take n list j 0 h ∙ list-at all word list e j ∙ ap (λ (i : ℕ). getD (listed all) i 0) (sym r)
       ∙ node-at-rank (has all) 32 j (omega arith) (all-has j h)
 
--- ---- the blocks, from powers at the front of a longer buffer
+-- ---- the powers
 
-module _ (a : Params) (ok : Valid a) (q : ℕ) (count-is : q ≡ min (working a) (2 ^ 64 - 1)) (found rows rest : List ℕ) (full : length found ≡ a .n)
-    (nodes : (j : ℕ) → j < a .n → getD found j 0 ≡ suc j) (powers : rows ≡ powerRows 0 q found) where
+-- one for each node and part
+pub powers-most : (a : Params) → Valid a → a .n * working a ≤ 1024
+powers-most a ok = areas-fit (a .n) (working a) (ok .shape .n-high) (omega (arith, working-le a ok, ok .shape .n-high))
+
+-- q is the number of parts, as the code counts them
+module _ (a : Params) (ok : Valid a) (q : ℕ) (count-is : q ≡ min (working a) (2 ^ 64 - 1)) where
   all-parts : q ≡ working a
   all-parts = count-is ∙ working-held a ok ∙ sym (working-is a ok)
 
-  most : q ≤ 32
+  pub most : q ≤ 32
   most = omega (arith, all-parts, working-le a ok, ok .shape .n-high)
 
-  power-cell : (i j : ℕ) → i < a .n → j < q → cell q (rows ++ rest) i j ≡ pow (point (suc i)) (suc j)
-  power-cell i j hi hj =
-      cell-front q (length found) rows rest (ap length powers ∙ length-powerRows 0 q found) i j (omega arith) hj
-      ∙ ap (λ (l : List ℕ). cell q l i j) powers ∙ powerRows-at 0 q found i j (omega arith) hj
-      ∙ ap₂ (λ (m e : ℕ). pow (point m) e) (nodes i hi) (omega arith)
+  pub area-is : a .n * q ≡ a .n * working a
+  area-is = ap (λ (m : ℕ). a .n * m) all-parts
 
-  enough : a .n * q ≤ length (rows ++ rest)
-  enough = omega (arith, length-append rows rest, ap length powers ∙ length-powerRows 0 q found, ap (λ (m : ℕ). m * q) full)
+  -- the blocks, from powers at the front of a longer buffer
+  module _ (found rows rest : List ℕ) (full : length found ≡ a .n) (nodes : (j : ℕ) → j < a .n → getD found j 0 ≡ suc j) (powers : rows ≡ powerRows 0 q found) where
+    power-cell : (i j : ℕ) → i < a .n → j < q → cell q (rows ++ rest) i j ≡ pow (point (suc i)) (suc j)
+    power-cell i j hi hj =
+        cell-front q (length found) rows rest (ap length powers ∙ length-powerRows 0 q found) i j (omega arith) hj
+        ∙ ap (λ (l : List ℕ). cell q l i j) powers ∙ powerRows-at 0 q found i j (omega arith) hj
+        ∙ ap₂ (λ (m e : ℕ). pow (point m) e) (nodes i hi) (omega arith)
 
-  -- a block of the parts: all of them are leading coefficients
-  whole-block : (parts : List ℕ) (i p : ℕ) → p < a .b
-      → sum q (λ j. mul (cell (a .b) parts j p) (pow (point i) (suc j))) ≡ block a (take (a .k * a .b) parts) (drop (a .k * a .b) parts) i p
-  unfolding block working evaluate
-  whole-block parts i p hp =
-      ap (λ (m : ℕ). sum m (λ j. mul (cell (a .b) parts j p) (pow (point i) (suc j)))) all-parts
-      ∙ sym (ap (add _) (sum-zero _) ∙ add-zero-right _)
-      ∙ sym (evaluate-join (a .k) (slackParts a) _ _ (λ j. cell (a .b) parts j p) (λ j. 0) (point i)
-      (λ j hj. sym (cell-take (a .b) (a .k) parts j p hj hp)) (λ j hj. sym (cell-drop (a .b) (a .k) parts j p)))
+    enough : a .n * q ≤ length (rows ++ rest)
+    enough = omega (arith, length-append rows rest, ap length powers ∙ length-powerRows 0 q found, ap (λ (m : ℕ). m * q) full)
 
-  pub encoded : (parts order old new : List ℕ) → length parts ≡ working a * a .b → length old ≡ a .n * a .b → order ≡ inOrder
-      → Multiplied (a .n) (a .b) q parts (take q order) (rows ++ rest) old new
-      → Encoded a (take (a .k * a .b) parts) (drop (a .k * a .b) parts) new
-  encoded parts order old new all room o made =
-      let fits : Fits (a .n) (a .b) q (take q order) (length parts) (length (rows ++ rest)) (length old) =
-      fits-first order o q most (a .n) (a .b) q (length parts) (length (rows ++ rest)) (length old) room (omega arith) enough
-      (omega (arith, all, ap (λ (m : ℕ). m * a .b) all-parts)) in
-      record {
-        length-is = made .same ∙ room;
-        holds = λ j p hj hp.
-            made .written fits j p hj hp ∙ product-first order o q most (a .b) q parts (rows ++ rest) j p
-            ∙ sum-ext q _ _ (λ t ht. ap (λ (y : ℕ). mul y (cell (a .b) parts t p)) (power-cell j t hj ht) ∙ mul-comm _ (cell (a .b) parts t p))
-            ∙ whole-block parts (suc j) p hp;
-      }
+    -- a block of the parts: all of them are leading coefficients
+    whole-block : (parts : List ℕ) (i p : ℕ) → p < a .b
+        → sum q (λ j. mul (cell (a .b) parts j p) (pow (point i) (suc j))) ≡ block a (take (a .k * a .b) parts) (drop (a .k * a .b) parts) i p
+    unfolding block working evaluate
+    whole-block parts i p hp =
+        ap (λ (m : ℕ). sum m (λ j. mul (cell (a .b) parts j p) (pow (point i) (suc j)))) all-parts
+        ∙ sym (ap (add _) (sum-zero _) ∙ add-zero-right _)
+        ∙ sym (evaluate-join (a .k) (slackParts a) _ _ (λ j. cell (a .b) parts j p) (λ j. 0) (point i)
+        (λ j hj. sym (cell-take (a .b) (a .k) parts j p hj hp)) (λ j hj. sym (cell-drop (a .b) (a .k) parts j p)))
+
+    pub encoded : (parts order columns old new : List ℕ) → length parts ≡ working a * a .b → old ≡ replicate (a .n * a .b) 0 → order ≡ inOrder → columns ≡ inOrder
+        → Added (a .b) q parts (take (a .n) order) (take q columns) (rows ++ rest) old new
+        → Encoded a (take (a .k * a .b) parts) (drop (a .k * a .b) parts) new
+    encoded parts order columns old new all cleared ordered across made =
+        let few : a .n ≤ 32 = ok .shape .n-high in
+        let targets : length (take (a .n) order) ≡ a .n = first-length order ordered (a .n) few in
+        let room : length old ≡ a .n * a .b = ap length cleared ∙ length-replicate {A = ℕ} (a .n * a .b) 0 in
+        let fits : Fits (a .b) q (take (a .n) order) (take q columns) (length parts) (length (rows ++ rest)) (length old) =
+        product-fits (a .b) q (length parts) (length (rows ++ rest)) (length old) (take (a .n) order) (take q columns) (ok .b-low)
+        (first-inside order ordered (a .n) few (a .b) (a .n) (length old) (le-refl (a .n)) (omega (arith, room)))
+        (omega (arith, first-length columns across q most)) (omega (arith, enough, ap (λ (m : ℕ). m * q) targets))
+        (first-inside columns across q most (a .b) q (length parts) (le-refl q) (omega (arith, all, ap (λ (m : ℕ). m * a .b) all-parts))) in
+        record {
+          length-is = made .same ∙ room;
+          holds = λ j p hj hp.
+              ordered-product (take (a .n) order) (λ i hi. first-at order ordered (a .n) few i (omega (arith, targets))) (a .b) q parts (take q columns) (rows ++ rest) old new
+              fits made (a .n * a .b) cleared j p (omega (arith, targets)) hp
+              ∙ product-first columns across q most (a .b) q parts (rows ++ rest) j p
+              ∙ sum-ext q _ _ (λ t ht. ap (λ (y : ℕ). mul y (cell (a .b) parts t p)) (power-cell j t hj ht) ∙ mul-comm _ (cell (a .b) parts t p))
+              ∙ whole-block parts (suc j) p hp;
+        }

@@ -5,7 +5,7 @@ use mathlib.Core.List.{List, _++_}
 use Prim.Native.Nat.{ℕ, suc, _*_, _^_, _≤_, _<_}
 use native.Mathlib.Nat.{le-refl, mul-le-mul-right}
 use native.Mathlib.Omega.{arith}
-use lib.ListN.{length, getD, take, length-append}
+use lib.ListN.{length, getD, take, replicate, length-append, length-replicate}
 use Rattle.base.specs.Seq.{cell}
 use Rattle.base.proofs.Seq.{cells-ext}
 use Rattle.field.specs.Field.{Bytes, mul}
@@ -22,9 +22,10 @@ use Rattle.gates.proofs.Valid.{working-is}
 use Rattle.code.specs.Code.{point, block, Gives}
 use Rattle.code.specs.Calls.{Decoded}
 use Rattle.code.proofs.Pairs.{from-reads, pair-exists}
-use Rattle.kernels.specs.Blocks.{Fits, Multiplied}
-use Rattle.coefficients.specs.Coefficients.{placesOf, pointAt, Reads}
-use Rattle.coefficients.proofs.Laws.{cell-front, place-of, fits-placed, product-placed}
+use Rattle.kernels.specs.Blocks.{Fits, Added}
+use Rattle.kernels.proofs.Arriving.{ordered-product}
+use Rattle.coefficients.specs.Coefficients.{inOrder, placesOf, pointAt, Reads}
+use Rattle.coefficients.proofs.Laws.{cell-front, size-most, place-of, product-fits, first-length, first-at, first-inside, placed-length, placed-inside, product-placed}
 
 module _ (a : Params) (from out : ℕ) (word : from < 2 ^ 32) (codeword : List ℕ) (ok : DecodeAccepted a (length codeword) out from) where
   module _ (x v : List ℕ) (gives : Gives a x v (has from) codeword) where
@@ -49,20 +50,27 @@ module _ (a : Params) (from out : ℕ) (word : from < 2 ^ 32) (codeword : List �
         (λ j. cell-byte (a .b) x j p (gives .pair .message .bytes)) (λ j. cell-byte (a .b) v j p (gives .pair .slack .bytes)) j hj
 
   -- q is the set's size as the code counts it
-  pub decoded : (q : ℕ) (places rows rest old new : List ℕ) → out ≡ length old → Bytes codeword → q ≡ size from → places ≡ placesOf from
-      → length rows ≡ q * q → Reads from rows → Multiplied (a .k) (a .b) q codeword (take q places) (rows ++ rest) old new → Decoded a codeword from new
-  decoded q places rows rest old new room bytes hq hp square reads made =
+  pub decoded : (q : ℕ) (places order rows rest old new : List ℕ) → old ≡ replicate out 0 → Bytes codeword → q ≡ size from → places ≡ placesOf from → order ≡ inOrder
+      → length rows ≡ q * q → Reads from rows → Added (a .b) q codeword (take (a .k) order) (take q places) (rows ++ rest) old new → Decoded a codeword from new
+  decoded q places order rows rest old new cleared bytes hq hp ordered square reads made =
       let v = ok .valid in
       let k : a .k ≤ q = omega (arith, ok .from-size, v .shape .k-le-r) in
-      let fits : Fits (a .k) (a .b) q (take q places) (length codeword) (length (rows ++ rest)) (length old) =
-      fits-placed from word places hp q hq (a .n) (a .k) (a .b) q (length codeword) (length (rows ++ rest)) (length old)
-      (within-has (a .n) from word .0 (ok .from-within)) (sym room ∙ ok .out-length) (le-refl q)
-      (omega (arith, mul-le-mul-right q k, length-append rows rest)) (omega (arith, ok .codeword-length)) in
+      let few : a .k ≤ 32 = omega (arith, size-most from word) in
+      let targets : length (take (a .k) order) ≡ a .k = first-length order ordered (a .k) few in
+      let room : length old ≡ a .k * a .b = ap length cleared ∙ length-replicate {A = ℕ} out 0 ∙ ok .out-length in
+      let fits : Fits (a .b) q (take (a .k) order) (take q places) (length codeword) (length (rows ++ rest)) (length old) =
+      product-fits (a .b) q (length codeword) (length (rows ++ rest)) (length old) (take (a .k) order) (take q places) (v .b-low)
+      (first-inside order ordered (a .k) few (a .b) (a .k) (length old) (le-refl (a .k)) (omega (arith, room))) (omega (arith, placed-length from word places hp q hq))
+      (omega (arith, ap (λ (m : ℕ). m * q) targets, mul-le-mul-right q k, length-append rows rest))
+      (placed-inside from word places hp q hq (a .b) (a .n) (length codeword) (within-has (a .n) from word .0 (ok .from-within))
+      (omega (arith, ok .codeword-length))) in
       let g = pair-exists a v (has from) (from-reads a from v (ok .from-within) (ok .from-size)) codeword bytes in
       let same : new ≡ g .0 =
-      cells-ext (a .b) (a .k) new (g .0) (v .b-low) (made .same ∙ sym room ∙ ok .out-length) (g .2 .pair .message .length-is)
+      cells-ext (a .b) (a .k) new (g .0) (v .b-low) (made .same ∙ room) (g .2 .pair .message .length-is)
       (λ j p hj hb.
-      made .written fits j p hj hb ∙ product-placed from word places hp q hq (a .b) q codeword (rows ++ rest) j p
+      ordered-product (take (a .k) order) (λ i hi. first-at order ordered (a .k) few i (omega (arith, targets))) (a .b) q codeword (take q places) (rows ++ rest) old new
+      fits made out cleared j p (omega (arith, targets)) hb
+      ∙ product-placed from word places hp q hq (a .b) q codeword (rows ++ rest) j p
       ∙ sum-ext q _ _
       (λ o ho. ap (λ (y : ℕ). mul y (cell (a .b) codeword (getD (placesOf from) o 0) p)) (cell-front q q rows rest square j o (omega arith) ho))
       ∙ ap (λ (m : ℕ). sum m (λ o. mul (cell m rows j o) (cell (a .b) codeword (getD (placesOf from) o 0) p))) hq

@@ -1,8 +1,10 @@
 // Document 01's reading.
+use blocks::clear;
+use coefficients::in_order;
 use coefficients::places_of;
 use coefficients::reading_rows;
 use gates::decode_gate;
-use kernels::product;
+use kernels::add_product;
 use params::NodeSet;
 use params::Params;
 ghost use mathlib.Core.Path.{_≡_};
@@ -40,7 +42,10 @@ fn decode_within(a: Params, codeword: &[u8], from: NodeSet, rows: &mut [u8], out
     let b = a.b;
     let q = from.size();
     let area = q * q;
-    let places = places_of(from);
+    let mut places = [0u8; 32];
+    places_of(from, &mut places);
     reading_rows(from, &mut rows[..area]);
-    product(out, k, b, codeword, &places[..q], rows, q);
+    let order = in_order();
+    clear(out);
+    add_product(out, &order[..k], b, codeword, &places[..q], rows, q);
 }

@@ -1,9 +1,10 @@
 // Document 01's set-up. Message and slack are laid side by side, so that one product by the powers of the nodes' points gives all blocks.
+use blocks::clear;
 use blocks::copy_block;
 use coefficients::in_order;
 use coefficients::power_rows;
 use gates::encode_gate;
-use kernels::product;
+use kernels::add_product;
 use params::NodeSet;
 use params::Params;
 ghost use mathlib.Core.Path.{_≡_};
@@ -31,6 +32,10 @@ fn encode_blocks(a: Params, message: &[u8], slack: &[u8], codeword: &mut [u8])
     ensures { λ _. ⌜ Encoded a (now (message .entry)) (now (slack .entry)) (now (codeword .exit)) ⌝ }
 {
     let size = message.len() + slack.len();
+    if size <= 128 {
+        encode_least(a, message, slack, codeword);
+        return;
+    }
     if size <= 1024 {
         encode_few(a, message, slack, codeword);
         return;
@@ -40,6 +45,15 @@ fn encode_blocks(a: Params, message: &[u8], slack: &[u8], codeword: &mut [u8])
         return;
     }
     encode_many(a, message, slack, codeword);
+}
+
+fn encode_least(a: Params, message: &[u8], slack: &[u8], codeword: &mut [u8])
+    requires { ⌜ EncodeAccepted a (length (now message)) (length (now slack)) (length (now codeword)) ⌝ }
+    requires { ⌜ length (now message) + length (now slack) ≤ 128 ⌝ }
+    ensures { λ _. ⌜ Encoded a (now (message .entry)) (now (slack .entry)) (now (codeword .exit)) ⌝ }
+{
+    let mut parts = [0u8; 128];
+    encode_joined(a, message, slack, &mut parts, codeword);
 }
 
 fn encode_few(a: Params, message: &[u8], slack: &[u8], codeword: &mut [u8])
@@ -81,8 +95,30 @@ fn encode_joined(a: Params, message: &[u8], slack: &[u8], parts: &mut [u8], code
     encode_parts(a, &parts[..last], codeword);
 }
 
-// The message is the first k parts, the slack the others.
+// The message is the first k parts, the slack the others. Here room is made for the powers, again no more than is wanted.
 fn encode_parts(a: Params, parts: &[u8], codeword: &mut [u8])
+    requires { ⌜ Valid a ⌝ }
+    requires { ⌜ (length (now parts) ≡ working a * a .b) × (length (now codeword) ≡ a .n * a .b) ⌝ }
+    ensures { λ _. ⌜ Encoded a (take (a .k * a .b) (now (parts .entry))) (drop (a .k * a .b) (now (parts .entry))) (now (codeword .exit)) ⌝ }
+{
+    if a.n * a.working() <= 128 {
+        encode_narrow(a, parts, codeword);
+        return;
+    }
+    encode_wide(a, parts, codeword);
+}
+
+fn encode_narrow(a: Params, parts: &[u8], codeword: &mut [u8])
+    requires { ⌜ Valid a ⌝ }
+    requires { ⌜ (length (now parts) ≡ working a * a .b) × (length (now codeword) ≡ a .n * a .b) ⌝ }
+    requires { ⌜ a .n * working a ≤ 128 ⌝ }
+    ensures { λ _. ⌜ Encoded a (take (a .k * a .b) (now (parts .entry))) (drop (a .k * a .b) (now (parts .entry))) (now (codeword .exit)) ⌝ }
+{
+    let mut rows = [0u8; 128];
+    encode_within(a, parts, &mut rows, codeword);
+}
+
+fn encode_wide(a: Params, parts: &[u8], codeword: &mut [u8])
     requires { ⌜ Valid a ⌝ }
     requires { ⌜ (length (now parts) ≡ working a * a .b) × (length (now codeword) ≡ a .n * a .b) ⌝ }
     ensures { λ _. ⌜ Encoded a (take (a .k * a .b) (now (parts .entry))) (drop (a .k * a .b) (now (parts .entry))) (now (codeword .exit)) ⌝ }
@@ -95,14 +131,17 @@ fn encode_parts(a: Params, parts: &[u8], codeword: &mut [u8])
 fn encode_within(a: Params, parts: &[u8], rows: &mut [u8], codeword: &mut [u8])
     requires { ⌜ Valid a ⌝ }
     requires { ⌜ (length (now parts) ≡ working a * a .b) × (length (now codeword) ≡ a .n * a .b) ⌝ }
-    requires { ⌜ length (now rows) ≡ 1024 ⌝ }
+    requires { ⌜ a .n * working a ≤ length (now rows) ⌝ }
     ensures { λ _. ⌜ Encoded a (take (a .k * a .b) (now (parts .entry))) (drop (a .k * a .b) (now (parts .entry))) (now (codeword .exit)) ⌝ }
 {
     let n = a.n;
     let q = a.working();
     let area = n * q;
-    let nodes = NodeSet(0).outside(n).list();
-    let order = in_order();
+    let mut nodes = [0u8; 32];
+    NodeSet(0).outside(n).list(&mut nodes);
     power_rows(&nodes[..n], 0, q, &mut rows[..area]);
-    product(codeword, n, a.b, parts, &order[..q], rows, q);
+    let order = in_order();
+    let columns = in_order();
+    clear(codeword);
+    add_product(codeword, &order[..n], a.b, parts, &columns[..q], rows, q);
 }

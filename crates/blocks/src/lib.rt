@@ -1,6 +1,7 @@
-// One block and another: adding, copying and comparing, each with one narrow contract for slices of any lengths.
+// One block and another: adding, copying, clearing and comparing, each with one narrow contract for slices of any lengths.
 use base::shorter;
 ghost use mathlib.Core.Path.{_≡_};
+ghost use lib.ListN.{length, replicate};
 ghost use Rattle.blocks.specs.Bytes.{plus, over, Compared};
 
 // dst += src. A byte that src does not have counts as 00.
@@ -23,6 +24,18 @@ pub fn copy_block(dst: &mut [u8], src: &[u8])
     let mut p = 0;
     while p < size {
         dst[p] = src[p];
+        p += 1;
+    }
+}
+
+// dst := 0
+pub fn clear(dst: &mut [u8])
+    ensures { λ _. ⌜ now (dst .exit) ≡ replicate (length (now (dst .entry))) 0 ⌝ }
+{
+    let end = dst.len();
+    let mut p = 0;
+    while p < end {
+        dst[p] = 0;
         p += 1;
     }
 }

@@ -16,33 +16,50 @@ use Rattle.interpolation.specs.Polynomial.{evaluate, Points}
 use Rattle.interpolation.proofs.Lagrange.{associate}
 use Rattle.params.specs.Nodes.{size}
 use Rattle.code.specs.Code.{point}
-use Rattle.kernels.specs.Blocks.{Added}
+use Rattle.kernels.specs.Blocks.{Fits, Added}
+use Rattle.kernels.proofs.Arriving.{ordered-added}
 use Rattle.coefficients.specs.Coefficients.{listed, pointAt, inOrder, powerRows, Roomy, ExtendsPost}
 use Rattle.coefficients.specs.Working.{pointsOf, remaining, Carries, Shared, Sharable, Completed, Completable}
-use Rattle.coefficients.proofs.Laws.{buffer-front, size-most, length-listed, length-powerRows, powerRows-at, fits-first, product-first}
+use Rattle.coefficients.proofs.Laws.{buffer-front, size-most, length-listed, length-powerRows, powerRows-at, product-fits, first-length, first-at, first-inside, product-first}
 use Rattle.coefficients.proofs.Values.{listed-points}
 
 -- ---- the share of the leading coefficients
 
 -- by one product; the powers stand at the front of a buffer
-pub shared : (rows e : ℕ) (at gains powers rest order old new : List ℕ) → Sharable rows e at gains old → powers ≡ powerRows 0 e at → order ≡ inOrder
-    → Added rows e (length at) (take (length at * e) (powers ++ rest)) (take (length at) order) gains old new → Shared rows e at gains old new
-shared rows e at gains powers rest order old new can told ho made =
-    let m = length at in
-    let front = take (m * e) (powers ++ rest) in
-    let hp : front ≡ powerRows 0 e at = buffer-front (m * e) powers rest (ap length told ∙ length-powerRows 0 e at) ∙ told in
+pub shared : (rows e : ℕ) (at gains powers rest order columns old new : List ℕ) → Sharable rows e at gains old → powers ≡ powerRows 0 e at → order ≡ inOrder
+    → columns ≡ inOrder → Added e (length at) (take (length at * e) (powers ++ rest)) (take rows order) (take (length at) columns) gains old new
+    → Shared rows e at gains old new
+shared rows e at gains powers rest order columns old new can told ho hc made =
     record {
       entries = λ t j ht hj.
-          made .written
-          (fits-first order ho m (can .most) rows e m (length front) (length gains) (length old) (can .room) (le-refl m) (omega (arith, can .gains-room))
-          (omega (arith, ap length hp ∙ length-powerRows 0 e at))) t j ht hj
+          ordered-added (take rows order) (λ i hi. first-at order ho rows (can .few) i (omega (arith, targets))) e m front (take m columns) gains old new
+          (fits (omega arith)) made t j (omega (arith, targets)) hj
           ∙ ap (add (cell e old t j))
-          (product-first order ho m (can .most) e m front gains t j
+          (product-first columns hc m (can .most) e m front gains t j
           ∙ sum-ext m _ _
           (λ o ho′.
           ap (mul (cell m gains t o))
           (ap (λ (l : List ℕ). cell e l o j) hp ∙ powerRows-at 0 e at o j ho′ hj ∙ ap (pow (point (getD at o 0))) (zero-add (suc j)))));
     }
+  where
+    m : ℕ
+    m = length at
+
+    front : List ℕ
+    front = take (m * e) (powers ++ rest)
+
+    hp : front ≡ powerRows 0 e at
+    hp = buffer-front (m * e) powers rest (ap length told ∙ length-powerRows 0 e at) ∙ told
+
+    targets : length (take rows order) ≡ rows
+    targets = first-length order ho rows (can .few)
+
+    fits : 0 < e → Fits e m (take rows order) (take m columns) (length front) (length gains) (length old)
+    fits some =
+        product-fits e m (length front) (length gains) (length old) (take rows order) (take m columns) some
+        (first-inside order ho rows (can .few) e rows (length old) (le-refl rows) (omega (arith, can .room)))
+        (omega (arith, first-length columns hc m (can .most))) (omega (arith, can .gains-room, ap (λ (n : ℕ). n * m) targets))
+        (first-inside columns hc m (can .most) e m (length front) (le-refl m) (omega (arith, ap length hp ∙ length-powerRows 0 e at)))
 
 -- ---- together
 
@@ -107,6 +124,7 @@ module _ (e at targets m count : ℕ) (known wanted leading gains : List ℕ) (l
   completable =
       record {
         e-most = e-most;
+        few = omega (arith, wanted-length, lent .targets-size, size-most targets (lent .targets-word));
         most = omega (arith, known-length, lent .at-size, size-most at (lent .at-word));
         points = subst (λ (l : List ℕ). Points (pointsOf l)) (sym (lent .known-is)) (listed-points at);
         targets-points = subst (λ (l : List ℕ). Points (pointsOf l)) (sym (lent .wanted-is)) (listed-points targets);

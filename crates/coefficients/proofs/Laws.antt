@@ -1,5 +1,5 @@
 -- A set's list of nodes, places and rows of powers, by their lengths and entries; and products over blocks at such places. Assumes nothing.
-use mathlib.Core.Path.{_≡_, sym, ap, ap₂, _∙_, subst⁻¹}
+use mathlib.Core.Path.{_≡_, refl, sym, ap, ap₂, _∙_, subst⁻¹}
 use mathlib.Core.Bool.{true}
 use mathlib.Core.List.{List, _++_}
 use mathlib.Core.Logic.{⊎-elim}
@@ -7,8 +7,8 @@ use Prim.Native.Nat.{ℕ, suc, _+_, _-_, _*_, _^_, _≤_, _<_}
 use native.Mathlib.Nat.{mul-le-mul}
 use native.Mathlib.Omega.{arith}
 use lib.Count.{ones-le}
-use lib.ListN.{length, getD, take, replicate, length-append, length-replicate, List·getD-append, List·getD-eq-default}
-use lib.Seq.{take-at, getD-take, getD-append-add, length-take-le}
+use lib.ListN.{length, getD, take, drop, replicate, length-append, length-drop, length-replicate, take-append-drop, List·getD-append, List·getD-eq-default}
+use lib.Seq.{take-at, getD-take, getD-drop, getD-append-add, length-take-le, ext-getD}
 use Rattle.base.specs.Seq.{cell}
 use Rattle.base.proofs.Cases.{lt-or}
 use Rattle.base.proofs.Seq.{length-tabulate, getD-tabulate, length-blocks, cell-blocks, zeros-at}
@@ -20,9 +20,10 @@ use Rattle.interpolation.proofs.Rows.{cell-take}
 use Rattle.params.specs.Nodes.{has, size}
 use Rattle.params.proofs.Sets.{length-nodes, size-count, entry}
 use Rattle.code.specs.Code.{point}
-use Rattle.kernels.specs.Blocks.{product, Fits}
+use Rattle.kernels.specs.Blocks.{product, Inside, Fits}
 use Rattle.kernels.proofs.Laws.{block-inside}
-use Rattle.coefficients.specs.Coefficients.{listed, inOrder, placesOf, powerRows}
+use Rattle.kernels.proofs.Arriving.{ordered-inside}
+use Rattle.coefficients.specs.Coefficients.{listed, inOrder, placesOf, Placing, powerRows}
 
 -- two sides of at most 32 give an area that has room in 1,024 bytes
 pub areas-fit : (m n : ℕ) → m ≤ 32 → n ≤ 32 → m * n ≤ 1024
@@ -53,7 +54,7 @@ size-most s h = ones-le 32 s h
 pub length-listed : (s : ℕ) → s < 2 ^ 32 → length (listed s) ≡ size s
 length-listed s h = length-nodes (has s) 32 ∙ sym (size-count 32 s h)
 
--- what NodeSet::list gives: the set's nodes first, then zeros
+-- what NodeSet::list makes of 32 zeros: the set's nodes first, then zeros
 abbrev pub Lists : ℕ → List ℕ → Type 0
 Lists s l = l ≡ listed s ++ replicate (32 - size s) 0
 
@@ -107,6 +108,19 @@ place-of s k h hk =
     let g = entry (has s) 32 k (omega (arith, length-listed s h, length-nodes (has s) 32)) in
     (g .0, g .2, g .3, places-at s k (omega (arith, size-most s h)) ∙ ap (λ (i : ℕ). i - 1) (g .3) ∙ omega arith)
 
+-- what places_of leaves of 32 zeros
+pub placing-zeros : (s : ℕ) (new : List ℕ) → s < 2 ^ 32 → Placing s (replicate 32 0) new → new ≡ placesOf s
+placing-zeros s new h placed =
+    placed .written refl ∙ ap (λ (l : List ℕ). take (size s) (placesOf s) ++ l) (sym behind) ∙ take-append-drop (size s) (placesOf s)
+  where
+    behind : drop (size s) (placesOf s) ≡ drop (size s) (replicate 32 0)
+    behind =
+        ext-getD 0 _ _ (simp (length-drop, length-places))
+        (λ i hi.
+        getD-drop (size s) (placesOf s) i 0 ∙ places-at s (size s + i) (omega (arith, length-drop (size s) (placesOf s), length-places s))
+        ∙ ap (λ (k : ℕ). k - 1) (List·getD-eq-default (listed s) 0 (omega (arith, length-listed s h)))
+        ∙ sym (getD-drop (size s) (replicate 32 0) i 0 ∙ zeros-at 32 (size s + i)))
+
 -- ---- rows of powers
 
 pub length-powerRows : (e m : ℕ) (nodes : List ℕ) → length (powerRows e m nodes) ≡ length nodes * m
@@ -118,7 +132,20 @@ pub powerRows-at : (e m : ℕ) (nodes : List ℕ) (i j : ℕ) → i < length nod
 unfolding powerRows
 powerRows-at e m nodes i j hi hj = cell-blocks m (length nodes) _ i j hi hj
 
--- ---- products over the first blocks in order
+-- ---- products over blocks
+
+-- a product fits: there are its blocks, and a row of coefficients for each target
+pub product-fits : (b stride src coeffs out : ℕ) (targets places : List ℕ) → 0 < b → Inside b targets out → length places ≤ stride
+    → length targets * stride ≤ coeffs → Inside b places src → Fits b stride targets places src coeffs out
+product-fits b stride src coeffs out targets places some target narrow enough block =
+    record {
+      some = some;
+      target = target;
+      row = λ i hi. omega (arith, row-ends (length targets) i stride coeffs hi enough);
+      block = block;
+    }
+
+-- ---- the first blocks in order
 
 module _ (order : List ℕ) (ordered : order ≡ inOrder) (width : ℕ) (most : width ≤ 32) where
   pub first-length : length (take width order) ≡ width
@@ -127,19 +154,11 @@ module _ (order : List ℕ) (ordered : order ≡ inOrder) (width : ℕ) (most : 
   pub first-at : (j : ℕ) → j < width → getD (take width order) j 0 ≡ j
   first-at j h = getD-take width order j 0 h ∙ ap (λ (l : List ℕ). getD l j 0) ordered ∙ in-order-at j (omega arith)
 
-  -- what such a product asks
-  pub fits-first : (rows b stride src coeffs out : ℕ) → out ≡ rows * b → width ≤ stride → rows * stride ≤ coeffs → width * b ≤ src
-      → Fits rows b stride (take width order) src coeffs out
-  fits-first rows b stride src coeffs out room narrow enough fits =
-      record {
-        room = room;
-        row = λ i hi. omega (arith, row-ends rows i stride coeffs hi enough, first-length);
-        block = λ j hj.
-            let h : j < width = omega (arith, first-length) in
-            subst⁻¹ (λ (k : ℕ). suc k * b ≤ src) (first-at j h) (block-inside b width j src h fits);
-      }
+  -- they are there in a list that has n blocks
+  pub first-inside : (b n size : ℕ) → width ≤ n → n * b ≤ size → Inside b (take width order) size
+  first-inside b n size le room = ordered-inside (take width order) (λ i h. first-at i (omega (arith, first-length))) b n size (omega (arith, first-length)) room
 
-  -- and what it gives
+  -- what a product over them gives
   pub product-first : (b stride : ℕ) (src coeffs : List ℕ) (i p : ℕ)
       → product b src (take width order) coeffs stride i p ≡ sum width (λ j. mul (cell stride coeffs i j) (cell b src j p))
   unfolding product
@@ -147,7 +166,7 @@ module _ (order : List ℕ) (ordered : order ≡ inOrder) (width : ℕ) (most : 
       ap (λ (k : ℕ). sum k (λ j. mul (cell stride coeffs i j) (cell b src (getD (take width order) j 0) p))) first-length
       ∙ sum-ext width _ _ (λ j hj. ap (λ (k : ℕ). mul (cell stride coeffs i j) (cell b src k p)) (first-at j hj))
 
--- ---- products over the blocks of a set's nodes
+-- ---- the blocks of a set's nodes
 
 module _ (s : ℕ) (h : s < 2 ^ 32) (places : List ℕ) (told : places ≡ placesOf s) (width : ℕ) (all : width ≡ size s) where
   pub placed-length : length (take width places) ≡ width
@@ -156,20 +175,14 @@ module _ (s : ℕ) (h : s < 2 ^ 32) (places : List ℕ) (told : places ≡ place
   pub placed-at : (k : ℕ) → k < width → getD (take width places) k 0 ≡ getD (placesOf s) k 0
   placed-at k hk = getD-take width places k 0 hk ∙ ap (λ (l : List ℕ). getD l k 0) told
 
-  -- what such a product asks of src, which has the blocks of the nodes 1, .., n
-  pub fits-placed : (n rows b stride src coeffs out : ℕ) → ((i : ℕ) → has s i ≡ true → i ≤ n) → out ≡ rows * b → width ≤ stride
-      → rows * stride ≤ coeffs → n * b ≤ src → Fits rows b stride (take width places) src coeffs out
-  fits-placed n rows b stride src coeffs out most room narrow enough fits =
-      record {
-        room = room;
-        row = λ i hi. omega (arith, row-ends rows i stride coeffs hi enough, placed-length);
-        block = λ k hk.
-            let lt : k < width = omega (arith, placed-length) in
-            let g = place-of s k h (omega arith) in
-            subst⁻¹ (λ (j : ℕ). suc j * b ≤ src) (placed-at k lt ∙ g .3) (block-inside b n (g .0) src (most (suc (g .0)) (g .1)) fits);
-      }
+  -- they are there in a list that has the blocks of the nodes 1, .., n
+  pub placed-inside : (b n size : ℕ) → ((i : ℕ) → has s i ≡ true → i ≤ n) → n * b ≤ size → Inside b (take width places) size
+  placed-inside b n size most room k hk =
+      let lt : k < width = omega (arith, placed-length) in
+      let g = place-of s k h (omega arith) in
+      subst⁻¹ (λ (j : ℕ). suc j * b ≤ size) (placed-at k lt ∙ g .3) (block-inside b n (g .0) size (most (suc (g .0)) (g .1)) room)
 
-  -- and what it gives
+  -- what a product over them gives
   pub product-placed : (b stride : ℕ) (src coeffs : List ℕ) (i p : ℕ)
       → product b src (take width places) coeffs stride i p ≡ sum width (λ k. mul (cell stride coeffs i k) (cell b src (getD (placesOf s) k 0) p))
   unfolding product

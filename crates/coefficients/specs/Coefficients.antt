@@ -1,8 +1,8 @@
 -- Small matrices of coefficients, said by what they take to what. A set of nodes stands for the list of its nodes in rising order. Assumes nothing.
 use mathlib.Core.Path.{_≡_}
-use mathlib.Core.List.{List}
+use mathlib.Core.List.{List, _++_}
 use Prim.Native.Nat.{ℕ, suc, _+_, _-_, _*_, _≤_, _<_}
-use lib.ListN.{length, getD}
+use lib.ListN.{length, getD, take, drop}
 use Rattle.base.specs.Seq.{tabulate, cell, blocks}
 use Rattle.field.specs.Field.{IsByte, add, mul, pow}
 use Rattle.field.specs.FiniteSum.{sum}
@@ -25,6 +25,11 @@ inOrder = tabulate 32 (λ j. j)
 -- the block number of each of the set's nodes, one less than the node's number; 0 behind the last
 abbrev pub placesOf : ℕ → List ℕ
 placesOf s = tabulate 32 (λ j. getD (listed s) j 0 - 1)
+
+-- the block numbers of the set's nodes stand at the front of new, and behind them what old had; where old has not 32 places, new is old
+pub record Placing (s : ℕ) (old new : List ℕ) : Type 0 where
+  pub written : length old ≡ 32 → new ≡ take (size s) (placesOf s) ++ drop (size s) old
+  pub kept : (length old ≡ 32 → ⊥) → new ≡ old
 
 -- ---- powers of points
 

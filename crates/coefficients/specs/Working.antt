@@ -146,6 +146,7 @@ pub record Shared (rows e : ℕ) (at gains old new : List ℕ) : Type 0 where
 
 -- what this asks
 pub record Sharable (rows e : ℕ) (at gains leading : List ℕ) : Type 0 where
+  pub few : rows ≤ 32
   pub most : length at ≤ 32
   pub e-most : e ≤ 32
   pub points : Points (pointsOf at)
@@ -171,6 +172,7 @@ pub record Completed (e : ℕ) (at targets leading gains : List ℕ) : Type 0 wh
 -- what rows that do so ask
 pub record Completable (e : ℕ) (at targets leading gains : List ℕ) : Type 0 where
   pub e-most : e ≤ 32
+  pub few : length targets ≤ 32
   pub most : length at ≤ 32
   pub points : Points (pointsOf at)
   pub targets-points : Points (pointsOf targets)

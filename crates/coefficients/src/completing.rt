@@ -347,5 +347,14 @@ fn share_within(
     let area = m * e;
     fill_rows(logs, exps, at, 0, e, &mut powers[..area]);
     let order = in_order();
-    add_product(leading, rows, e, &powers[..area], &order[..m], gains, m);
+    let columns = in_order();
+    add_product(
+        leading,
+        &order[..rows],
+        e,
+        &powers[..area],
+        &columns[..m],
+        gains,
+        m,
+    );
 }

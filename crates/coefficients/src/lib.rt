@@ -13,9 +13,8 @@ use field::powers;
 use params::Node;
 use params::NodeSet;
 ghost use mathlib.Core.Path.{_≡_};
-ghost use Prim.Native.Nat.{_-_};
 ghost use Rattle.code.specs.Code.{point};
-ghost use Rattle.coefficients.specs.Coefficients.{inOrder, placesOf, PowersPost, ReadsPost, ExtendsPost};
+ghost use Rattle.coefficients.specs.Coefficients.{inOrder, Placing, PowersPost, ReadsPost, ExtendsPost};
 
 // The point rule: the only place where a node's number becomes a field element.
 pub fn point(node: Node) -> Elem
@@ -64,27 +63,21 @@ pub fn in_order() -> [u8; 32]
     ]
 }
 
-// The block number of each node of the set, in rising order of the nodes; 0 behind the last.
-pub fn places_of(set: NodeSet) -> [u8; 32]
-    ensures { λ r. ⌜ r ≡ placesOf (set .0) ⌝ }
+// The block numbers of the set's nodes, in rising order of the nodes, go to the front of out, which has 32 places; what stands behind them is as it was. Where
+// out has not 32 places, nothing is written.
+pub fn places_of(set: NodeSet, out: &mut [u8])
+    ensures { λ _. ⌜ Placing (set .0) (now (out .entry)) (now (out .exit)) ⌝ }
 {
-    let mut places = set.list();
-    let mut j: usize = 0;
-    while j < 32 {
-        places[j] = one_less(places[j]);
+    if out.len() != 32 {
+        return;
+    }
+    set.list(out);
+    let count = set.size();
+    let mut j = 0;
+    while j < count {
+        out[j] = out[j] - 1;
         j += 1;
     }
-    places
-}
-
-// The block number of a node; 0 for no node.
-fn one_less(node: u8) -> u8
-    ensures { λ r. ⌜ r ≡ node - 1 ⌝ }
-{
-    if node == 0 {
-        return 0;
-    }
-    node - 1
 }
 
 // out := a row for each node, the powers e + 1, .., e + m of its point. Where out has no room for just these, nothing is written.
@@ -106,7 +99,8 @@ pub fn reading_rows(from: NodeSet, rows: &mut [u8])
     if rows.len() != count * count {
         return;
     }
-    let nodes = from.list();
+    let mut nodes = [0u8; 32];
+    from.list(&mut nodes);
     reading::basis_rows(&logs(), &powers(), &nodes[..count], rows);
 }
 
@@ -133,8 +127,10 @@ pub fn completion_rows(
     if gains.len() != count * m {
         return;
     }
-    let known = at.list();
-    let wanted = targets.list();
+    let mut known = [0u8; 32];
+    at.list(&mut known);
+    let mut wanted = [0u8; 32];
+    targets.list(&mut wanted);
     completing::complete(
         &logs(),
         &powers(),

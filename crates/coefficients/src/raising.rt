@@ -2,10 +2,11 @@
 use crate::logarithms::exponent;
 use crate::logarithms::reduced;
 use crate::point;
+use blocks::clear;
 use params::Node;
 ghost use mathlib.Core.Path.{_≡_};
 ghost use Prim.Native.Nat.{_*_, _<_};
-ghost use lib.ListN.{length, replicate};
+ghost use lib.ListN.{length};
 ghost use Rattle.field.specs.Field.{LogTable, PowerTable};
 ghost use Rattle.coefficients.specs.Coefficients.{powerRows};
 ghost use Rattle.coefficients.specs.Working.{powersFrom, stepsFrom};
@@ -39,18 +40,6 @@ fn fill_powers(logs: &[u8], exps: &[u8], c: u8, e: usize, out: &mut [u8])
     }
     let l = exponent(logs, c);
     fill_from(exps, l, (l * (e % 255)) % 255, out);
-}
-
-// out := 0
-fn clear(out: &mut [u8])
-    ensures { λ _. ⌜ now (out .exit) ≡ replicate (length (now (out .entry))) 0 ⌝ }
-{
-    let count = out.len();
-    let mut j = 0;
-    while j < count {
-        out[j] = 0;
-        j += 1;
-    }
 }
 
 // out := 02^(start + l), 02^(start + 2l), ..

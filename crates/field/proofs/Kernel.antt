@@ -25,7 +25,7 @@ unfolding double-test
 double-is x h = eqb→eq _ _ (below 256 double-test double-tests x h)
 
 -- below 128 nothing is reduced
-double-small : (q : ℕ) → q < 128 → mul 2 q ≡ q * 2
+pub double-small : (q : ℕ) → q < 128 → mul 2 q ≡ q * 2
 unfolding mul
 double-small q h =
     agree (mul 2) (λ x. x * 2) (mul-add-right 2) (λ a b. shift-add a b 1) 7

@@ -2,4 +2,4 @@ pub mod Addition
 pub mod Multiplication
 pub mod Exponents
 pub mod FiniteSum
-mod Kernel
+pub mod Kernel

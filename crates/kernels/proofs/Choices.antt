@@ -6,11 +6,12 @@ use mathlib.Core.Logic.{⊎-elim}
 use Prim.Native.Nat.{ℕ, zero, suc, _+_, _-_, _*_, _^_, _≤_, _<_}
 use native.Mathlib.Nat.{suc-mul, not-suc-le-zero, le-of-suc-le-suc}
 use native.Mathlib.Omega.{arith}
+use borrow.Rule.Slice.PartMut.{putMid, same-len-mid}
 use lib.ListN.{length, getD, replicate, length-replicate, getD-replicate}
 use Rattle.base.specs.Seq.{cell}
 use Rattle.base.proofs.Cases.{eq-or}
 use Rattle.base.specs.Parts.{partOf, putBlock}
-use Rattle.base.proofs.Parts.{length-partOf, partOf-at, putBlock-here, putBlock-other, putBlock-length}
+use Rattle.base.proofs.Parts.{put-before, put-in, length-partOf, partOf-at, putBlock-here, putBlock-other, putBlock-length}
 use Rattle.base.proofs.Seq.{zeros-at}
 use Rattle.field.specs.Field.{IsByte, Bytes, add, mul}
 use Rattle.field.specs.FiniteSum.{sum}
@@ -20,8 +21,8 @@ use Rattle.field.proofs.Multiplication.{mul-zero-left, mul-one-left}
 use Rattle.blocks.specs.Bytes.{plus, over}
 use Rattle.blocks.proofs.Laws.{plus-length, plus-at, over-same}
 use Rattle.kernels.specs.Blocks.{Inside}
-use Rattle.kernels.specs.Tiling.{number, columns, tileAt, Raised, Chosen, Tabled}
-use Rattle.kernels.proofs.Digits.{number-below, number-front}
+use Rattle.kernels.specs.Tiling.{number, groupsOf, columns, tileAt, Raised, Chosen, Tabled}
+use Rattle.kernels.proofs.Digits.{number-below, number-front, columns-most, columns-full}
 use Rattle.kernels.proofs.Stretches.{stretch, length-stretch, stretch-at}
 
 -- w bytes from `at` on of a block that src has
@@ -51,7 +52,7 @@ sum-is n m table zeros taken sum tile last room size et es el =
 pub raised-none : (half : ℕ) (part old : List ℕ) → Raised half 0 part old old
 raised-none half part old = record { same = refl; lower = λ n p hn hp. refl; upper = λ m p hm. absurd (omega arith) }
 
-module _ (half : ℕ) (part old : List ℕ) (room : length old ≡ 1024) (h8 : half ≤ 8) where
+module _ (half : ℕ) (part old : List ℕ) (room : length old ≡ 2048) (h16 : half ≤ 16) where
   pub raised-more : (t : ℕ) (new tile last : List ℕ) → t < half → tile ≡ plus (replicate 64 0) part
       → last ≡ putBlock 64 (half + t) new (plus (partOf 64 t new) tile) → Raised half t part old new → Raised half (t + 1) part old last
   raised-more t new tile last ht et e s = subst⁻¹ (Raised half (t + 1) part old) e more
@@ -71,17 +72,17 @@ module _ (half : ℕ) (part old : List ℕ) (room : length old ≡ 1024) (h8 : h
           ∙ ap (λ (x : ℕ). add x (getD part p 0)) (getD-replicate 64 p 0 0 hp) ∙ add-zero-left (getD part p 0)
 
       other : (n p : ℕ) → (n ≡ half + t → ⊥) → p < 64 → cell 64 (putBlock 64 (half + t) new sum) n p ≡ cell 64 new n p
-      other n p ne hp = putBlock-other 64 16 (half + t) new sum (omega arith) (omega (arith, s .same)) full n p ne hp
+      other n p ne hp = putBlock-other 64 32 (half + t) new sum (omega arith) (omega (arith, s .same)) full n p ne hp
 
       here : (p : ℕ) → p < 64 → cell 64 (putBlock 64 (half + t) new sum) (half + t) p ≡ add (cell 64 old t p) (getD part p 0)
       here p hp =
-          putBlock-here 64 16 (half + t) new sum (omega arith) (omega (arith, s .same)) full p hp ∙ plus-at (partOf 64 t new) tile p (omega (arith, within))
+          putBlock-here 64 32 (half + t) new sum (omega arith) (omega (arith, s .same)) full p hp ∙ plus-at (partOf 64 t new) tile p (omega (arith, within))
           ∙ ap₂ add (partOf-at 64 t new p hp ∙ s .lower t p ht hp) (tile-at p hp)
 
       more : Raised half (t + 1) part old (putBlock 64 (half + t) new sum)
       more =
           record {
-            same = putBlock-length 64 16 (half + t) new sum (omega arith) (omega (arith, s .same)) full ∙ s .same;
+            same = putBlock-length 64 32 (half + t) new sum (omega arith) (omega (arith, s .same)) full ∙ s .same;
             lower = λ n p hn hp. other n p (λ x. omega arith) hp ∙ s .lower n p hn hp;
             upper = λ m p hm hp.
                 ⊎-elim
@@ -92,15 +93,15 @@ module _ (half : ℕ) (part old : List ℕ) (room : length old ≡ 1024) (h8 : h
 -- ---- one column more, in front of those that the table has
 
 module _ (w : ℕ) (w64 : w ≤ 64) (x : ℕ → ℕ → ℕ) where
-  pub chosen-none : (t n : ℕ) (old part : List ℕ) → n ≡ 0 → length old ≡ 1024 → part ≡ replicate (length (partOf 64 0 old)) 0
+  pub chosen-none : (t n : ℕ) (old part : List ℕ) → n ≡ 0 → length old ≡ 2048 → part ≡ replicate (length (partOf 64 0 old)) 0
       → Chosen w n (λ k. x (t + k)) (putBlock 64 0 old part)
   unfolding number
   chosen-none t n old part none room e =
       subst⁻¹ (λ (m : ℕ). Chosen w m (λ k. x (t + k)) (putBlock 64 0 old part)) none
       (record {
-        size = putBlock-length 64 16 0 old part (omega arith) (omega arith) full ∙ room;
+        size = putBlock-length 64 32 0 old part (omega arith) (omega arith) full ∙ room;
         entry = λ d p hd hp.
-            putBlock-here 64 16 0 old part (omega arith) (omega arith) full p (omega arith) ∙ ap (λ (l : List ℕ). getD l p 0) e ∙ zeros-at (length (partOf 64 0 old)) p
+            putBlock-here 64 32 0 old part (omega arith) (omega arith) full p (omega arith) ∙ ap (λ (l : List ℕ). getD l p 0) e ∙ zeros-at (length (partOf 64 0 old)) p
             ∙ sym (sum-zero _);
       })
     where
@@ -158,14 +159,9 @@ module _ (w : ℕ) (w64 : w ≤ 64) (x : ℕ → ℕ → ℕ) where
 
 -- ---- the tables of all groups
 
--- entry n of group g, in the whole table and in the group's own
-in-group : (table : List ℕ) (g n p : ℕ) → cell 64 table (g * 16 + n) p ≡ cell 1024 table g (n * 64 + p)
-unfolding cell
-in-group table g n p = let e : (g * 16 + n) * 64 + p ≡ g * 1024 + (n * 64 + p) = omega arith in ap (λ (k : ℕ). getD table k 0) e
-
-entry-of : (group : List ℕ) (n p : ℕ) → getD group (n * 64 + p) 0 ≡ cell 64 group n p
-unfolding cell
-entry-of group n p = refl
+-- byte p of entry n of group g, in the whole table and in the group's own
+in-group : (g n p : ℕ) → (g * 16 + n) * 64 + p ≡ g * 1024 + (n * 64 + p)
+in-group g n p = omega arith
 
 -- the places of a group name blocks too
 pub group-inside : (b j r src : ℕ) (places : List ℕ) → j + r ≤ length places → Inside b places src → Inside b (stretch j r places) src
@@ -177,30 +173,48 @@ module _ (b at w : ℕ) (src places old : List ℕ) where
   pub tabled-none : Tabled b at w src places 0 old old
   tabled-none = record { same = refl; entry = λ g d p hg. absurd (omega arith) }
 
-  pub tabled-more : (t r : ℕ) (new group : List ℕ) → t * 1024 + 1024 ≤ length new → w ≤ 64 → t * 4 + r ≤ length places → r ≡ columns (length places) t
-      → Chosen w (length (stretch (t * 4) r places)) (tileAt b at src (stretch (t * 4) r places)) group
-      → Tabled b at w src places t old new → Tabled b at w src places (t + 1) old (putBlock 1024 t new group)
-  tabled-more t r new group room hw fits er m s =
+  -- the window of a group begins behind all entries of the groups before
+  pub tabled-more : (t r : ℕ) (new group : List ℕ) → t * 1024 + 2048 ≤ length new → w ≤ 64 → t < groupsOf (length places) → t * 4 + r ≤ length places
+      → r ≡ columns (length places) t → Chosen w (length (stretch (t * 4) r places)) (tileAt b at src (stretch (t * 4) r places)) group
+      → Tabled b at w src places t old new → Tabled b at w src places (t + 1) old (putMid (t * 1024) (t * 1024 + 2048 - t * 1024) new group)
+  unfolding cell
+  tabled-more t r new group room hw ht fits er m s =
       record {
-        same = putBlock-length 1024 (t + 1) t new group (omega arith) (omega arith) (m .size) ∙ s .same;
+        same = same-len-mid (t * 1024) size new group (full ∙ sym (length-stretch (t * 1024) 2048 new room ∙ omega arith)) ∙ s .same;
         entry = λ g d p hg hd hp.
-            in-group (putBlock 1024 t new group) g (number (columns (length places) g) d) p
-            ∙ ⊎-elim
-            (λ (e : g ≡ t). ap (λ (k : ℕ). cell 1024 (putBlock 1024 t new group) k (number (columns (length places) k) d * 64 + p)) e ∙ here d p hd hp
+            ⊎-elim
+            (λ (e : g ≡ t). ap (λ (k : ℕ). cell 64 last (k * 16 + number (columns (length places) k) d) p) e ∙ here d p hd hp
             ∙ ap (λ (k : ℕ). sum (columns (length places) k) (λ i. mul (d i) (tileAt b at src places (k * 4 + i) p))) (sym e))
-            (λ ne. putBlock-other 1024 (t + 1) t new group (omega arith) (omega arith) (m .size) g (number (columns (length places) g) d * 64 + p) ne (omega (arith, small g d hd))
-            ∙ sym (in-group new g (number (columns (length places) g) d) p) ∙ s .entry g d p (omega arith) hd hp)
+            (λ ne. before g d p (omega arith) hd hp ∙ s .entry g d p (omega arith) hd hp)
             (eq-or g t);
       }
     where
-      small : (g : ℕ) (d : ℕ → ℕ) → ((k : ℕ) → d k < 2) → number (columns (length places) g) d < 16
-      small g d hd = number-below (columns (length places) g) 4 d hd (omega arith)
+      size : ℕ
+      size = t * 1024 + 2048 - t * 1024
+
+      last : List ℕ
+      last = putMid (t * 1024) size new group
+
+      inside : t * 1024 + size ≤ length new
+      inside = omega arith
+
+      full : length group ≡ size
+      full = omega (arith, m .size)
+
+      before : (g : ℕ) (d : ℕ → ℕ) (p : ℕ) → g < t → ((k : ℕ) → d k < 2) → p < w
+          → getD last ((g * 16 + number (columns (length places) g) d) * 64 + p) 0 ≡ getD new ((g * 16 + number (columns (length places) g) d) * 64 + p) 0
+      before g d p hg hd hp =
+          let four : columns (length places) g ≤ 4 = omega (arith, columns-full (length places) g (omega arith)) in
+          put-before (t * 1024) size new group inside full _ (omega (arith, number-below (columns (length places) g) 4 d hd four))
 
       own : Chosen w (columns (length places) t) (tileAt b at src (stretch (t * 4) r places)) group
       own = subst (λ (n : ℕ). Chosen w n (tileAt b at src (stretch (t * 4) r places)) group) (length-stretch (t * 4) r places fits ∙ er) m
 
-      here : (d : ℕ → ℕ) (p : ℕ) → ((k : ℕ) → d k < 2) → p < w → cell 1024 (putBlock 1024 t new group) t (number (columns (length places) t) d * 64 + p) ≡ sum (columns (length places) t) (λ i. mul (d i) (tileAt b at src places (t * 4 + i) p))
+      here : (d : ℕ → ℕ) (p : ℕ) → ((k : ℕ) → d k < 2) → p < w
+          → getD last ((t * 16 + number (columns (length places) t) d) * 64 + p) 0 ≡ sum (columns (length places) t) (λ i. mul (d i) (tileAt b at src places (t * 4 + i) p))
       here d p hd hp =
-          putBlock-here 1024 (t + 1) t new group (omega arith) (omega arith) (m .size) (number (columns (length places) t) d * 64 + p) (omega (arith, small t d hd))
-          ∙ entry-of group (number (columns (length places) t) d) p ∙ own .entry d p hd hp
+          ap (λ (q : ℕ). getD last q 0) (in-group t (number (columns (length places) t) d) p)
+          ∙ put-in (t * 1024) size new group inside full (number (columns (length places) t) d * 64 + p)
+          (omega (arith, number-below (columns (length places) t) 5 d hd (columns-most (length places) t)))
+          ∙ own .entry d p hd hp
           ∙ sum-ext (columns (length places) t) _ _ (λ i hi. ap (λ (q : ℕ). mul (d i) (cell b src q (at + p))) (stretch-at (t * 4) r places i (omega arith)))

@@ -42,26 +42,29 @@ module _ (rows width stride coeffs : ℕ) where
 
 -- ---- places
 
-module _ (b : ℕ) (places : List ℕ) (src : ℕ) where
-  pub no-bytes : b ≡ 0 → Decided (Inside b places src) true
-  no-bytes e = decided-true _ (λ j h. omega (arith, ap (λ (k : ℕ). suc (getD places j 0) * k) e ∙ mul-zero (suc (getD places j 0))))
+module _ (b : ℕ) (places : List ℕ) (src : ℕ) (hb : 0 < b) where
+  pub outside : (j : ℕ) → j < length places → src / b ≤ getD places j 0 → Decided (Inside b places src) false
+  outside j hj le = decided-false _ (λ f. omega (arith, le-div-iff-mul-le hb .1 (f j hj)))
 
-  pub outside : (j : ℕ) → 0 < b → j < length places → src / b ≤ getD places j 0 → Decided (Inside b places src) false
-  outside j hb hj le = decided-false _ (λ f. omega (arith, le-div-iff-mul-le hb .1 (f j hj)))
-
-  pub inside : 0 < b → ((j : ℕ) → j < length places → getD places j 0 < src / b) → Decided (Inside b places src) true
-  inside hb f = decided-true _ (λ j h. le-div-iff-mul-le hb .0 (f j h))
+  pub inside : ((j : ℕ) → j < length places → getD places j 0 < src / b) → Decided (Inside b places src) true
+  inside f = decided-true _ (λ j h. le-div-iff-mul-le hb .0 (f j h))
 
 -- ---- all together
 
-module _ (rows b stride : ℕ) (places : List ℕ) (src coeffs out : ℕ) where
-  pub other-room : (out ≡ rows * b → ⊥) → Decided (Fits rows b stride places src coeffs out) false
-  other-room ne = decided-false _ (λ f. ne (f .room))
+module _ (b stride : ℕ) (targets places : List ℕ) (src coeffs out : ℕ) where
+  pub no-bytes : b ≡ 0 → Decided (Fits b stride targets places src coeffs out) false
+  no-bytes e = decided-false _ (λ f. omega (arith, f .some))
 
-  pub other-rows : (Rows rows (length places) stride coeffs → ⊥) → Decided (Fits rows b stride places src coeffs out) false
+  pub other-rows : (Rows (length targets) (length places) stride coeffs → ⊥) → Decided (Fits b stride targets places src coeffs out) false
   other-rows ne = decided-false _ (λ f. ne (f .row))
 
-  pub all-fits : (t : Bool) → out ≡ rows * b → Rows rows (length places) stride coeffs → Decided (Inside b places src) t
-      → Decided (Fits rows b stride places src coeffs out) t
-  all-fits t room row d =
-      record { holds = λ e. record { room = room; row = row; block = d .holds e }; fails = λ e f. d .fails e (f .block) }
+  pub other-targets : (Inside b targets out → ⊥) → Decided (Fits b stride targets places src coeffs out) false
+  other-targets ne = decided-false _ (λ f. ne (f .target))
+
+  pub all-fits : (t : Bool) → 0 < b → Rows (length targets) (length places) stride coeffs → Inside b targets out → Decided (Inside b places src) t
+      → Decided (Fits b stride targets places src coeffs out) t
+  all-fits t hb row target d =
+      record {
+        holds = λ e. record { some = hb; target = target; row = row; block = d .holds e };
+        fails = λ e f. d .fails e (f .block);
+      }

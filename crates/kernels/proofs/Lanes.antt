@@ -2,19 +2,19 @@
 use mathlib.Core.Path.{_≡_, refl, sym, ap, ap₂, _∙_}
 use mathlib.Core.List.{List}
 use mathlib.Core.Logic.{⊎-elim}
-use Prim.Native.Nat.{ℕ, suc, _+_, _*_, _/_, _%_, _^_, _≤_, _<_}
+use Prim.Native.Nat.{ℕ, suc, _+_, _-_, _*_, _/_, _%_, _^_, _≤_, _<_, min}
 use native.Mathlib.Nat.{mul-assoc, pow-suc}
 use native.Mathlib.Numerals.{add-one}
 use native.Mathlib.Omega.{arith}
 use lib.ListN.{length, getD, replicate, length-replicate}
 use Rattle.base.specs.Seq.{cell}
-use Rattle.base.proofs.Cases.{eq-or}
+use Rattle.base.proofs.Cases.{lt-or, eq-or}
 use Rattle.base.specs.Parts.{Filled, Blocked, partOf, putBlock}
 use Rattle.base.proofs.Parts.{blocked-more, length-partOf, partOf-at, putBlock-here, putBlock-other, putBlock-length}
 use Rattle.base.proofs.Seq.{length-tabulate, getD-tabulate, zeros-at}
 use Rattle.field.specs.Field.{Bytes}
-use Rattle.kernels.specs.Tiling.{bit, number, columns, appended, shifted, longer, Picked}
-use Rattle.kernels.proofs.Digits.{bit-lt, number-below, number-last}
+use Rattle.kernels.specs.Tiling.{bit, number, groupsOf, columns, appended, shifted, longer, Picked}
+use Rattle.kernels.proofs.Digits.{bit-lt, number-below, number-last, columns-most, columns-all, columns-full, columns-last}
 
 -- ---- the bits of the lanes
 
@@ -56,62 +56,98 @@ own-pick : (group : List ℕ) (s i : ℕ) → getD group (s * 32 + i) 0 ≡ cell
 unfolding cell
 own-pick group s i = refl
 
-module _ (rows stride : ℕ) (coeffs : List ℕ) (r32 : rows ≤ 32) where
-  pub picked-none : (picks : List ℕ) → picks ≡ replicate 2048 0 → Picked rows stride coeffs 0 picks
+-- how many of the first j of n columns are in group g
+abbrev sofar : ℕ → ℕ → ℕ → ℕ
+sofar n j g = min (j - g * 4) (columns n g)
+
+-- column j is in a group behind k, or before
+behind : (j k c : ℕ) → k * 4 + c ≤ j → min (j - k * 4) c ≡ min (j + 1 - k * 4) c
+behind j k c h = omega arith
+
+ahead : (j k c : ℕ) → j < k * 4 → min (j - k * 4) c ≡ min (j + 1 - k * 4) c
+ahead j k c h = omega arith
+
+-- g is the group of column j: the one by fours, or the last where that would be beyond it
+module _ (n j g : ℕ) (hj : j < n) (lo : g ≤ j / 4) (hi : g < j / 4 → (n - 2) / 4 ≤ g) where
+  ends : j < g * 4 + columns n g
+  ends =
+      ⊎-elim
+      (λ (lt : g < (n - 2) / 4). ⊎-elim (λ (x : g < j / 4). absurd (omega (arith, hi x))) (λ (x : j / 4 ≤ g). omega (arith, columns-full n g lt)) (lt-or g (j / 4)))
+      (λ (le : (n - 2) / 4 ≤ g). omega (arith, columns-last n g le)) (lt-or g ((n - 2) / 4))
+
+  place : j ≡ g * 4 + sofar n j g
+  place = omega (arith, ends)
+
+  one-more : suc (sofar n j g) ≡ sofar n (j + 1) g
+  one-more = omega (arith, ends)
+
+  no-more : (k : ℕ) → (k ≡ g → ⊥) → g < groupsOf n → k < groupsOf n → sofar n j k ≡ sofar n (j + 1) k
+  no-more k ne hg hk =
+      ⊎-elim (λ (lt : k < g). behind j k (columns n k) (omega (arith, columns-full n k (omega arith))))
+      (λ (le : g ≤ k). ahead j k (columns n k) (omega (arith, ends, ne, columns-full n g (omega (arith, ne))))) (lt-or k g)
+
+module _ (rows stride : ℕ) (coeffs : List ℕ) (r32 : rows ≤ 32) (n : ℕ) (n32 : n ≤ 32) where
+  pub picked-none : (picks : List ℕ) → picks ≡ replicate 2048 0 → Picked rows stride coeffs n 0 picks
   unfolding cell number
   picked-none picks e =
       record {
         size = ap length e ∙ length-replicate {A = ℕ} 2048 0;
         pick = λ g s i hg hs hi.
-            let none : 0 ≡ columns 0 g = omega arith in
+            let none : 0 ≡ sofar n 0 g = omega arith in
             ap (λ (l : List ℕ). getD l (g * 256 + (s * 32 + i)) 0) e ∙ zeros-at 2048 (g * 256 + (s * 32 + i))
             ∙ ap (λ (m : ℕ). number m (λ k. bit s (getD coeffs (i * stride + (g * 4 + k)) 0))) none;
       }
 
-  pub picked-more : (j : ℕ) (picks zeros lanes part : List ℕ) → j < 32 → Filled (λ i. cell stride coeffs i j) rows zeros lanes
-      → Blocked 32 8 (longer (partOf 256 (j / 4) picks) lanes) 8 (partOf 256 (j / 4) picks) part → Picked rows stride coeffs j picks
-      → Picked rows stride coeffs (j + 1) (putBlock 256 (j / 4) picks part)
+  pub picked-more : (j h : ℕ) (picks zeros lanes part : List ℕ) → j < n → h ≤ j / 4 → (h < j / 4 → (n - 2) / 4 ≤ h) → h < groupsOf n
+      → Filled (λ i. cell stride coeffs i j) rows zeros lanes
+      → Blocked 32 8 (longer (partOf 256 h picks) lanes) 8 (partOf 256 h picks) part → Picked rows stride coeffs n j picks
+      → Picked rows stride coeffs n (j + 1) (putBlock 256 h picks part)
   unfolding longer
-  picked-more j picks zeros lanes part hj l b s =
+  picked-more j h picks zeros lanes part hj lo up hh l b s =
       record {
-        size = putBlock-length 256 8 (j / 4) picks part (omega arith) (omega (arith, s .size)) full ∙ s .size;
+        size = putBlock-length 256 8 h picks part h8 (omega (arith, s .size)) full ∙ s .size;
         pick = λ g t i hg ht hi.
             ⊎-elim
-            (λ (e : g ≡ j / 4). ap (λ (k : ℕ). cell 256 (putBlock 256 (j / 4) picks part) k (t * 32 + i)) e ∙ here t i ht hi
-            ∙ ap (λ (k : ℕ). number (columns (j + 1) k) (digits k t i)) (sym e))
-            (λ ne. let same : columns j g ≡ columns (j + 1) g = omega arith in
-            putBlock-other 256 8 (j / 4) picks part (omega arith) (omega (arith, s .size)) full g (t * 32 + i) ne (omega arith)
-            ∙ s .pick g t i hg ht hi ∙ ap (λ (m : ℕ). number m (digits g t i)) same)
-            (eq-or g (j / 4));
+            (λ (e : g ≡ h). ap (λ (k : ℕ). cell 256 (putBlock 256 h picks part) k (t * 32 + i)) e ∙ here t i ht hi
+            ∙ ap (λ (k : ℕ). number (sofar n (j + 1) k) (digits k t i)) (sym e))
+            (λ ne.
+            putBlock-other 256 8 h picks part h8 (omega (arith, s .size)) full g (t * 32 + i) ne (omega arith)
+            ∙ s .pick g t i hg ht hi ∙ ap (λ (m : ℕ). number m (digits g t i)) (no-more n j h hj lo up g ne hh hg))
+            (eq-or g h);
       }
     where
+      h8 : h < 8
+      h8 = omega arith
+
       digits : ℕ → ℕ → ℕ → ℕ → ℕ
       digits g t i k = bit t (cell stride coeffs i (g * 4 + k))
 
-      within : length (partOf 256 (j / 4) picks) ≡ 256
-      within = length-partOf 256 (j / 4) picks (omega (arith, s .size))
+      within : length (partOf 256 h picks) ≡ 256
+      within = length-partOf 256 h picks (omega (arith, s .size))
 
       full : length part ≡ 256
       full = b .same ∙ within
 
       -- what the group's picks were
-      was : (t i : ℕ) → t < 8 → i < rows → cell 32 (partOf 256 (j / 4) picks) t i ≡ number (columns j (j / 4)) (digits (j / 4) t i)
-      was t i ht hi =
-          sym (own-pick (partOf 256 (j / 4) picks) t i) ∙ partOf-at 256 (j / 4) picks (t * 32 + i) (omega arith)
-          ∙ s .pick (j / 4) t i (omega arith) ht hi
+      was : (t i : ℕ) → t < 8 → i < rows → cell 32 (partOf 256 h picks) t i ≡ number (sofar n j h) (digits h t i)
+      was t i ht hi = sym (own-pick (partOf 256 h picks) t i) ∙ partOf-at 256 h picks (t * 32 + i) (omega arith) ∙ s .pick h t i hh ht hi
 
       -- the digit that is appended
-      digit : (t i : ℕ) → i < rows → bit t (getD lanes i 0) ≡ digits (j / 4) t i (columns j (j / 4))
-      digit t i hi =
-          let e : j ≡ j / 4 * 4 + columns j (j / 4) = omega arith in
-          ap (bit t) (l .done i hi ∙ ap (cell stride coeffs i) e)
+      digit : (t i : ℕ) → i < rows → bit t (getD lanes i 0) ≡ digits h t i (sofar n j h)
+      digit t i hi = ap (bit t) (l .done i hi ∙ ap (cell stride coeffs i) (place n j h hj lo up))
 
-      here : (t i : ℕ) → t < 8 → i < rows → cell 256 (putBlock 256 (j / 4) picks part) (j / 4) (t * 32 + i) ≡ number (columns (j + 1) (j / 4)) (digits (j / 4) t i)
+      here : (t i : ℕ) → t < 8 → i < rows → cell 256 (putBlock 256 h picks part) h (t * 32 + i) ≡ number (sofar n (j + 1) h) (digits h t i)
       here t i ht hi =
-          let more : suc (columns j (j / 4)) ≡ columns (j + 1) (j / 4) = omega arith in
-          let small : number (columns j (j / 4)) (digits (j / 4) t i) < 16 = number-below (columns j (j / 4)) 4 (digits (j / 4) t i) (λ k. bit-lt t _) (omega arith) in
-          let keep : number (columns j (j / 4)) (digits (j / 4) t i) % 128 ≡ number (columns j (j / 4)) (digits (j / 4) t i) = omega arith in
-          putBlock-here 256 8 (j / 4) picks part (omega arith) (omega (arith, s .size)) full (t * 32 + i) (omega arith) ∙ own-pick part t i
+          let five : sofar n j h ≤ 5 = omega (arith, columns-most n h) in
+          let small : number (sofar n j h) (digits h t i) < 32 = number-below (sofar n j h) 5 (digits h t i) (λ k. bit-lt t _) five in
+          let keep : number (sofar n j h) (digits h t i) % 128 ≡ number (sofar n j h) (digits h t i) = omega arith in
+          putBlock-here 256 8 h picks part h8 (omega (arith, s .size)) full (t * 32 + i) (omega arith) ∙ own-pick part t i
           ∙ b .done t i ht (omega arith)
           ∙ ap₂ (λ (x y : ℕ). x * 2 + y) (ap (λ (x : ℕ). x % 128) (was t i ht hi) ∙ keep) (digit t i hi)
-          ∙ sym (number-last (columns j (j / 4)) (digits (j / 4) t i)) ∙ ap (λ (m : ℕ). number m (digits (j / 4) t i)) more
+          ∙ sym (number-last (sofar n j h) (digits h t i)) ∙ ap (λ (m : ℕ). number m (digits h t i)) (one-more n j h hj lo up)
+
+-- all columns have their digits
+pub picked-all : {rows stride : ℕ} {coeffs : List ℕ} {n : ℕ} {picks : List ℕ} → Picked rows stride coeffs n n picks → (g s i : ℕ) → g < groupsOf n → s < 8 → i < rows
+    → cell 256 picks g (s * 32 + i) ≡ number (columns n g) (λ k. bit s (cell stride coeffs i (g * 4 + k)))
+picked-all {stride = stride} {coeffs = coeffs} {n = n} p g s i hg hs hi =
+    p .pick g s i hg hs hi ∙ ap (λ (m : ℕ). number m (λ k. bit s (cell stride coeffs i (g * 4 + k)))) (columns-all n g)

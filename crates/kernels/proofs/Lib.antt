@@ -1,4 +1,5 @@
 pub mod Laws
+pub mod Arriving
 mod Fitting
 mod Summing
 mod Stretches

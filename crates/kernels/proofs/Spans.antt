@@ -1,18 +1,19 @@
--- A tile of every row: the entries that a row's picks name, summed bit by bit, are its tile of the product, and added tile by tile they make the product.
+-- A tile of every row: the entries that a row's picks name, summed bit by bit, are its tile of the product, and added to its target's block, tile by tile, they make the product.
 -- Assumes nothing.
 use mathlib.Core.Path.{_≡_, refl, sym, ap, ap₂, _∙_, subst⁻¹}
 use mathlib.Core.List.{List}
-use mathlib.Core.Logic.{⊎-elim}
+use mathlib.Core.Logic.{_⊎_, inl, inr, ⊎-elim}
 use Prim.Native.Nat.{ℕ, zero, suc, _+_, _-_, _*_, _/_, _≤_, _<_}
 use native.Mathlib.Nat.{suc-mul, mul-le-mul-right}
 use native.Mathlib.Numerals.{add-one}
 use native.Mathlib.Omega.{arith}
 use borrow.Rule.Slice.PartMut.{putMid, same-len-mid}
-use lib.ListN.{length, getD, replicate}
+use lib.ListN.{length, getD, replicate, drop, length-drop}
+use lib.Seq.{length-take-le}
 use Rattle.base.specs.Seq.{tabulate, cell}
 use Rattle.base.proofs.Cases.{lt-or, eq-or}
 use Rattle.base.specs.Parts.{partOf}
-use Rattle.base.proofs.Parts.{put-before, put-in, put-after, partOf-at, row-ends}
+use Rattle.base.proofs.Parts.{put-before, put-in, put-after, partOf-at}
 use Rattle.base.proofs.Seq.{length-tabulate, getD-tabulate, eq-tabulate, tabulate-zeros}
 use Rattle.field.specs.Field.{Bytes, add, mul}
 use Rattle.field.specs.FiniteSum.{sum}
@@ -21,10 +22,11 @@ use Rattle.field.proofs.FiniteSum.{sum-zero, sum-zeros, sum-last, sum-ext, sum-
 use Rattle.field.proofs.Multiplication.{mul-zero-left}
 use Rattle.blocks.specs.Bytes.{plus}
 use Rattle.blocks.proofs.Laws.{plus-length, plus-at}
-use Rattle.kernels.specs.Blocks.{product, Fits, Added}
-use Rattle.kernels.specs.Tiling.{bit, number, columns, multiple, tileAt, Tabled, Picked, named, byBits, Gathered, Reached, Spanned}
-use Rattle.kernels.proofs.Digits.{bit-lt, number-below, number-bits, digit-times, grouped}
-use Rattle.kernels.proofs.RowByRow.{rowAt}
+use Rattle.kernels.specs.Blocks.{product, arriving, Inside, Fits, Added}
+use Rattle.kernels.specs.Tiling.{bit, number, groupsOf, columns, multiple, tileAt, Tabled, Picked, named, byBits, Gathered, Reached, Spanned}
+use Rattle.kernels.proofs.Digits.{bit-lt, number-below, number-bits, digit-times, columns-most, grouped}
+use Rattle.kernels.proofs.Lanes.{picked-all}
+use Rattle.kernels.proofs.Arriving.{arriving-start, arriving-here, arriving-by, arriving-ext}
 use Rattle.kernels.proofs.Stretches.{stretch, length-stretch, stretch-at}
 
 -- ---- entries summed up one after the other
@@ -73,18 +75,18 @@ cell-byte : (stride : ℕ) (coeffs : List ℕ) → Bytes coeffs → (i j : ℕ) 
 unfolding cell
 cell-byte stride coeffs bytes i j = bytes (i * stride + j)
 
--- every pick is below 16
-pub all-reached : (n rows stride : ℕ) (coeffs table picks : List ℕ) → n ≤ 32 → (n + 3) / 4 * 1024 ≤ length table → Picked rows stride coeffs n picks → (i s : ℕ)
-    → i < rows → s < 8 → Reached ((n + 3) / 4) (s * 32 + i) table picks
-all-reached n rows stride coeffs table picks n32 room k i s hi hs =
+-- every pick is below 32
+pub all-reached : (n groups rows stride : ℕ) (coeffs table picks : List ℕ) → n ≤ 32 → groups ≡ groupsOf n → groups * 1024 + 1024 ≤ length table
+    → Picked rows stride coeffs n n picks → (i s : ℕ) → i < rows → s < 8 → Reached groups (s * 32 + i) table picks
+all-reached n groups rows stride coeffs table picks n32 eg room k i s hi hs =
     record {
       room = room;
       lanes = omega (arith, k .size);
-      small = λ g hg. subst⁻¹ (λ (x : ℕ). x < 16) (k .pick g s i (omega arith) hs hi) (number-below (columns n g) 4 _ (λ j. bit-lt s _) (omega arith));
+      small = λ g hg. subst⁻¹ (λ (x : ℕ). x < 32) (picked-all k g s i (omega arith) hs hi) (number-below (columns n g) 5 _ (λ j. bit-lt s _) (columns-most n g));
     }
 
-module _ (b at w rows stride : ℕ) (src places coeffs room table picks : List ℕ) (bytes : Bytes coeffs) (n32 : length places ≤ 32)
-    (t : Tabled b at w src places ((length places + 3) / 4) room table) (k : Picked rows stride coeffs (length places) picks) where
+module _ (b at w rows stride : ℕ) (src places coeffs room table picks : List ℕ) (bytes : Bytes coeffs)
+    (groups : ℕ) (eg : groups ≡ groupsOf (length places)) (t : Tabled b at w src places groups room table) (k : Picked rows stride coeffs (length places) (length places) picks) where
   module _ (i p : ℕ) (hi : i < rows) (hp : p < w) where
     abbrev c : ℕ → ℕ
     c j = cell stride coeffs i j
@@ -92,14 +94,16 @@ module _ (b at w rows stride : ℕ) (src places coeffs room table picks : List �
     abbrev x : ℕ → ℕ
     x j = tileAt b at src places j p
 
-    bit-sum : (s : ℕ) → s < 8 → named ((length places + 3) / 4) table picks (s * 32 + i) p ≡ sum (length places) (λ j. mul (bit s (c j)) (x j))
+    bit-sum : (s : ℕ) → s < 8 → named groups table picks (s * 32 + i) p ≡ sum (length places) (λ j. mul (bit s (c j)) (x j))
     unfolding named
     bit-sum s hs =
-        grouped ((length places + 3) / 4) (length places) _ (λ j. mul (bit s (c j)) (x j)) (omega arith) (omega arith)
+        ap (λ (m : ℕ). sum m (λ g. cell 64 table (g * 16 + cell 256 picks g (s * 32 + i)) p)) eg
+        ∙ grouped ((length places - 2) / 4) (length places) _ (λ j. mul (bit s (c j)) (x j)) refl
         (λ g hg.
-        ap (λ (q : ℕ). cell 64 table (g * 16 + q) p) (k .pick g s i (omega arith) hs hi) ∙ t .entry g (λ j. bit s (c (g * 4 + j))) p hg (λ j. bit-lt s _) hp)
+        ap (λ (q : ℕ). cell 64 table (g * 16 + q) p) (picked-all k g s i (omega arith) hs hi)
+        ∙ t .entry g (λ j. bit s (c (g * 4 + j))) p (omega arith) (λ j. bit-lt s _) hp)
 
-    bits-sum : (s : ℕ) → s ≤ 8 → byBits ((length places + 3) / 4) table picks i s p ≡ sum (length places) (λ j. mul (number s (λ r. bit r (c j))) (x j))
+    bits-sum : (s : ℕ) → s ≤ 8 → byBits groups table picks i s p ≡ sum (length places) (λ j. mul (number s (λ r. bit r (c j))) (x j))
     unfolding byBits number
     bits-sum zero hs = sym (sum-zeros (length places) _ (λ j hj. mul-zero-left (x j)))
     bits-sum (suc s) hs =
@@ -108,106 +112,122 @@ module _ (b at w rows stride : ℕ) (src places coeffs room table picks : List �
         (λ j hj.
         sym (digit-times (number s (λ r. bit r (c j))) (bit s (c j)) (x j) (number-below s 7 _ (λ r. bit-lt r (c j)) (omega arith)) (bit-lt s (c j))))
 
-    pub row-product : byBits ((length places + 3) / 4) table picks i 8 p ≡ product b src places coeffs stride i (at + p)
+    pub row-product : byBits groups table picks i 8 p ≡ product b src places coeffs stride i (at + p)
     unfolding product
     row-product =
         bits-sum 8 (omega arith) ∙ sum-ext (length places) _ _ (λ j hj. ap (λ (q : ℕ). mul q (x j)) (number-bits (c j) (cell-byte stride coeffs bytes i j)))
 
--- ---- a span of every row, row by row
+-- ---- a span of every block, row by row
 
-pub spanned-none : (b at w : ℕ) (f : ℕ → ℕ → ℕ) (old : List ℕ) → Spanned b at w f 0 old old
-spanned-none b at w f old =
-    record { same = refl; done = λ i p hi. absurd (omega arith); front = λ i p hp. refl; back = λ i p hp hb. refl; rest = λ i p hi hp. refl }
+pub spanned-none : (b at w : ℕ) (targets : List ℕ) (f : ℕ → ℕ → ℕ) (old : List ℕ) → Spanned b at w targets f 0 old old
+spanned-none b at w targets f old =
+    record {
+      same = refl;
+      done = λ j p hp. sym (ap (add (cell b old j (at + p))) (arriving-start targets _ j) ∙ add-zero-right (cell b old j (at + p)));
+      front = λ j p hp. refl;
+      back = λ j p hp hb. refl;
+    }
 
--- a row's span ends within all rows
-pub span-ends : (b at w rows t size : ℕ) → at + w ≤ b → t < rows → size ≡ rows * b → t * b + at + w ≤ size
-span-ends b at w rows t size fits ht room = omega (arith, row-ends rows t b size ht (omega arith))
+-- one row more: the k bytes from a on, which are a span of its target's block, have the row added
+module _ (b at w : ℕ) (targets : List ℕ) (f : ℕ → ℕ → ℕ) (old : List ℕ) (fits : at + w ≤ b) where
+  module _ (t a k : ℕ) (new part : List ℕ) (ea : a ≡ getD targets t 0 * b + at) (ek : k ≡ w) (ends : a + k ≤ length new) (full : length part ≡ k) where
+    last : List ℕ
+    last = putMid a k new part
 
-module _ (b at w rows : ℕ) (f : ℕ → ℕ → ℕ) (old : List ℕ) (room : length old ≡ rows * b) (fits : at + w ≤ b) (w64 : w ≤ 64) where
-  pub spanned-more : (t : ℕ) (new part : List ℕ) → t < rows → part ≡ plus (stretch (t * b + at) w new) (tabulate 64 (f t)) → Spanned b at w f t old new
-      → Spanned b at w f (t + 1) old (putMid (t * b + at) (t * b + at + w - (t * b + at)) new part)
+    -- a byte that is not in the span
+    apart : (j q : ℕ) → q < b → (j ≡ getD targets t 0 → (q < at) ⊎ (at + w ≤ q)) → cell b last j q ≡ cell b new j q
+    unfolding cell last
+    apart j q hq h =
+        ⊎-elim
+        (λ (lt : j < getD targets t 0). put-before a k new part ends full (j * b + q) (omega (arith, mul-le-mul-right b lt, suc-mul j b)))
+        (λ (le : getD targets t 0 ≤ j). ⊎-elim
+        (λ (e : j ≡ getD targets t 0). ⊎-elim
+        (λ (lt : q < at). put-before a k new part ends full (j * b + q) (omega (arith, ap (λ (m : ℕ). m * b) e)))
+        (λ (after : at + w ≤ q). put-after a k new part ends full (j * b + q) (omega (arith, ap (λ (m : ℕ). m * b) e)))
+        (h e))
+        (λ ne. put-after a k new part ends full (j * b + q) (omega (arith, mul-le-mul-right b (above j le ne), suc-mul (getD targets t 0) b)))
+        (eq-or j (getD targets t 0)))
+        (lt-or j (getD targets t 0))
+      where
+        above : (j : ℕ) → getD targets t 0 ≤ j → (j ≡ getD targets t 0 → ⊥) → suc (getD targets t 0) ≤ j
+        above j le ne = omega (arith, ne)
+
+    within : (p : ℕ) → p < w → cell b last (getD targets t 0) (at + p) ≡ getD part p 0
+    unfolding cell last
+    within p hp =
+        let e : getD targets t 0 * b + (at + p) ≡ a + p = omega arith in
+        ap (λ (q : ℕ). getD (putMid a k new part) q 0) e ∙ put-in a k new part ends full p (omega arith)
+
+    pub spanned-more : ((p : ℕ) → p < w → getD part p 0 ≡ add (cell b new (getD targets t 0) (at + p)) (f t p)) → Spanned b at w targets f t old new
+        → Spanned b at w targets f (t + 1) old (putMid a k new part)
+    unfolding last
+    spanned-more is s =
+        record {
+          same = same-len-mid a k new part (full ∙ sym (length-take-le k (drop a new) (omega (arith, length-drop a new)))) ∙ s .same;
+          done = λ j p hp.
+              ⊎-elim
+              (λ (e : getD targets t 0 ≡ j). ap (λ (m : ℕ). cell b (putMid a k new part) m (at + p)) (sym e) ∙ within p hp ∙ is p hp
+              ∙ ap₂ add (ap (λ (m : ℕ). cell b new m (at + p)) e ∙ s .done j p hp) refl ∙ add-assoc (cell b old j (at + p)) _ _
+              ∙ ap (add (cell b old j (at + p))) (sym (arriving-here targets (λ i. f i p) j t e)))
+              (λ ne. apart j (at + p) (omega arith) (λ e. absurd (ne (sym e))) ∙ s .done j p hp
+              ∙ ap (add (cell b old j (at + p))) (sym (arriving-by targets (λ i. f i p) j t ne ∙ add-zero-right _)))
+              (eq-or (getD targets t 0) j);
+          front = λ j p hp. apart j p (omega arith) (λ e. inl hp) ∙ s .front j p hp;
+          back = λ j p hp hb. apart j p hb (λ e. inr hp) ∙ s .back j p hp hb;
+        }
+
+  -- as the code adds a row to at most 64 bytes
+  pub row-spanned : (w ≤ 64) → (t g : ℕ) (new part : List ℕ) → g ≡ getD targets t 0 → g * b + at + w ≤ length new → part ≡ plus (stretch (g * b + at) w new) (tabulate 64 (f t))
+      → Spanned b at w targets f t old new → Spanned b at w targets f (t + 1) old (putMid (g * b + at) (g * b + at + w - (g * b + at)) new part)
   unfolding cell
-  spanned-more t new part ht e s =
-      record {
-        same = same-len-mid (t * b + at) (t * b + at + w - (t * b + at)) new part (ap length e ∙ plus-length (stretch (t * b + at) w new) _) ∙ s .same;
-        done = λ i p hi hp.
-            ⊎-elim
-            (λ (x : i ≡ t). ap (λ (k : ℕ). getD last (k * b + (at + p)) 0) x ∙ here p hp ∙ ap (λ (k : ℕ). add (getD old (k * b + (at + p)) 0) (f k p)) (sym x))
-            (λ ne. before i (at + p) (omega arith) (omega arith) ∙ s .done i p (omega arith) hp) (eq-or i t);
-        front = λ i p hp.
-            ⊎-elim
-            (λ (lt : i < t). before i p lt (omega arith))
-            (λ (le : t ≤ i). ⊎-elim (λ (x : i ≡ t). put-before (t * b + at) size new part inside full (i * b + p) (omega (arith, ap (λ (k : ℕ). k * b) x)))
-            (λ ne. after i p (omega arith)) (eq-or i t))
-            (lt-or i t)
-            ∙ s .front i p hp;
-        back = λ i p hp hb.
-            ⊎-elim (λ (lt : i < t). before i p lt hb)
-            (λ (le : t ≤ i). put-after (t * b + at) size new part inside full (i * b + p) (omega (arith, mul-le-mul-right b le)))
-            (lt-or i t)
-            ∙ s .back i p hp hb;
-        rest = λ i p hi hp. after i p (omega arith) ∙ s .rest i p (omega arith) hp;
-      }
+  row-spanned w64 t g new part eg ends e s =
+      spanned-more t (g * b + at) (g * b + at + w - (g * b + at)) new part (ap (λ (k : ℕ). k * b + at) eg) (omega arith) (omega arith)
+      (ap length e ∙ plus-length (stretch (g * b + at) w new) _ ∙ l ∙ omega arith)
+      (λ p hp.
+      let q : g * b + at + p ≡ getD targets t 0 * b + (at + p) = omega (arith, ap (λ (k : ℕ). k * b) eg) in
+      ap (λ (l : List ℕ). getD l p 0) e ∙ plus-at (stretch (g * b + at) w new) _ p (omega (arith, l))
+      ∙ ap₂ add (stretch-at (g * b + at) w new p hp ∙ ap (λ (k : ℕ). getD new k 0) q) (getD-tabulate 64 _ p (omega arith)))
+      s
     where
-      size : ℕ
-      size = t * b + at + w - (t * b + at)
-
-      last : List ℕ
-      last = putMid (t * b + at) size new part
-
-      ends : t * b + at + w ≤ length new
-      ends = span-ends b at w rows t (length new) fits ht (s .same ∙ room)
-
-      inside : t * b + at + size ≤ length new
-      inside = omega (arith, ends)
-
-      full : length part ≡ size
-      full = ap length e ∙ plus-length (stretch (t * b + at) w new) _ ∙ length-stretch (t * b + at) w new ends ∙ omega arith
-
-      before : (i p : ℕ) → i < t → p < b → getD last (i * b + p) 0 ≡ getD new (i * b + p) 0
-      before i p lt hp = put-before (t * b + at) size new part inside full (i * b + p) (omega (arith, mul-le-mul-right b lt, suc-mul i b))
-
-      after : (i p : ℕ) → t < i → getD last (i * b + p) 0 ≡ getD new (i * b + p) 0
-      after i p lt = put-after (t * b + at) size new part inside full (i * b + p) (omega (arith, mul-le-mul-right b lt, suc-mul t b))
-
-      here : (p : ℕ) → p < w → getD last (t * b + (at + p)) 0 ≡ add (getD old (t * b + (at + p)) 0) (f t p)
-      here p hp =
-          let q : t * b + (at + p) ≡ t * b + at + p = omega arith in
-          ap (λ (k : ℕ). getD last k 0) q ∙ put-in (t * b + at) size new part inside full p (omega arith) ∙ ap (λ (l : List ℕ). getD l p 0) e
-          ∙ plus-at (stretch (t * b + at) w new) _ p (omega (arith, length-stretch (t * b + at) w new ends))
-          ∙ ap₂ add (stretch-at (t * b + at) w new p hp ∙ ap (λ (k : ℕ). getD new k 0) (sym q) ∙ s .rest t (at + p) (omega arith) (omega arith)) (getD-tabulate 64 _ p (omega arith))
+      l : length (stretch (g * b + at) w new) ≡ w
+      l = length-stretch (g * b + at) w new ends
 
 -- ---- tile by tile
 
--- of every row of b bytes those before `at` are f's, the others as they were
-pub record Tiled (b rows : ℕ) (f : ℕ → ℕ → ℕ) (at : ℕ) (old new : List ℕ) : Type 0 where
+-- byte p of block j: what it was plus the rows that go to it
+unfoldable pub blockAt : ℕ → ℕ → List ℕ → List ℕ → List ℕ → List ℕ → List ℕ → ℕ → ℕ → ℕ
+blockAt b stride src targets places coeffs old j p = add (cell b old j p) (arriving (length targets) targets (λ i. product b src places coeffs stride i p) j)
+
+-- of every block of b bytes those before `at` are f's, the others as they were
+pub record Tiled (b : ℕ) (f : ℕ → ℕ → ℕ) (at : ℕ) (old new : List ℕ) : Type 0 where
   pub same : length new ≡ length old
-  pub done : (i p : ℕ) → i < rows → p < at → p < b → cell b new i p ≡ f i p
-  pub rest : (i p : ℕ) → i < rows → at ≤ p → p < b → cell b new i p ≡ cell b old i p
+  pub done : (j p : ℕ) → p < at → p < b → cell b new j p ≡ f j p
+  pub rest : (j p : ℕ) → at ≤ p → p < b → cell b new j p ≡ cell b old j p
 
-pub tiled-none : (b rows : ℕ) (f : ℕ → ℕ → ℕ) (old : List ℕ) → Tiled b rows f 0 old old
-tiled-none b rows f old = record { same = refl; done = λ i p hi hp. absurd (omega arith); rest = λ i p hi hp hb. refl }
+pub tiled-none : (b : ℕ) (f : ℕ → ℕ → ℕ) (old : List ℕ) → Tiled b f 0 old old
+tiled-none b f old = record { same = refl; done = λ j p hp. absurd (omega arith); rest = λ j p hp hb. refl }
 
--- one more tile of every row
-pub tiled-more : (b at w rows stride : ℕ) (src places coeffs old : List ℕ) (f : ℕ → ℕ → ℕ) (mid new : List ℕ) → at + w ≤ b
-    → ((i p : ℕ) → i < rows → p < w → f i p ≡ product b src places coeffs stride i (at + p))
-    → Tiled b rows (rowAt b stride src places coeffs old) at old mid → Spanned b at w f rows mid new
-    → Tiled b rows (rowAt b stride src places coeffs old) (at + w) old new
-unfolding rowAt
-tiled-more b at w rows stride src places coeffs old f mid new hw is s l =
+-- one more tile of every block
+pub tiled-more : (b at w stride : ℕ) (src targets places coeffs old : List ℕ) (f : ℕ → ℕ → ℕ) (mid new : List ℕ) → at + w ≤ b
+    → ((i p : ℕ) → i < length targets → p < w → f i p ≡ product b src places coeffs stride i (at + p))
+    → Tiled b (blockAt b stride src targets places coeffs old) at old mid → Spanned b at w targets f (length targets) mid new
+    → Tiled b (blockAt b stride src targets places coeffs old) (at + w) old new
+unfolding blockAt
+tiled-more b at w stride src targets places coeffs old f mid new hw is s l =
     record {
       same = l .same ∙ s .same;
-      done = λ i p hi hp hb.
-          ⊎-elim (λ (lt : p < at). l .front i p lt ∙ s .done i p hi lt hb)
+      done = λ j p hp hb.
+          ⊎-elim (λ (lt : p < at). l .front j p lt ∙ s .done j p lt hb)
           (λ (le : at ≤ p). let whole : p ≡ at + (p - at) = omega arith in
-          ap (cell b new i) whole ∙ l .done i (p - at) hi (omega arith) ∙ ap₂ add (s .rest i (at + (p - at)) hi (omega arith) (omega arith)) (is i (p - at) hi (omega arith))
-          ∙ ap (λ (q : ℕ). add (cell b old i q) (product b src places coeffs stride i q)) (sym whole))
+          ap (cell b new j) whole ∙ l .done j (p - at) (omega arith)
+          ∙ ap₂ add (s .rest j (at + (p - at)) (omega arith) (omega arith)) (arriving-ext (length targets) targets _ _ j (λ i hi. is i (p - at) hi (omega arith)))
+          ∙ ap (λ (q : ℕ). add (cell b old j q) (arriving (length targets) targets (λ i. product b src places coeffs stride i q) j)) (sym whole))
           (lt-or p at);
-      rest = λ i p hi hp hb. l .back i p hp hb ∙ s .rest i p hi (omega arith) hb;
+      rest = λ j p hp hb. l .back j p hp hb ∙ s .rest j p (omega arith) hb;
     }
 
-pub tiled-all : (b stride rows at : ℕ) (src places coeffs old new : List ℕ) → Fits rows b stride places (length src) (length coeffs) (length old) → b ≤ at
-    → Tiled b rows (rowAt b stride src places coeffs old) at old new → Added rows b stride src places coeffs old new
-unfolding rowAt
-tiled-all b stride rows at src places coeffs old new fits h s =
-    record { same = s .same; written = λ f i p hi hp. s .done i p hi (omega arith) hp; kept = λ ne. absurd (ne fits) }
+pub tiled-all : (b stride at : ℕ) (src targets places coeffs old new : List ℕ) → Fits b stride targets places (length src) (length coeffs) (length old) → b ≤ at
+    → Tiled b (blockAt b stride src targets places coeffs old) at old new → Added b stride src targets places coeffs old new
+unfolding blockAt
+tiled-all b stride at src targets places coeffs old new fits h s =
+    record { same = s .same; written = λ f j p hp. s .done j p (omega arith) hp; kept = λ ne. absurd (ne fits) }

@@ -3,6 +3,7 @@ use mathlib.Core.Path.{_≡_}
 use mathlib.Core.Bool.{Bool, true, false}
 use mathlib.Core.List.{List}
 use Prim.Native.Nat.{ℕ, suc, _+_, _*_, _≤_, _<_}
+use lib.Dec.{eqb}
 use lib.ListN.{length, getD}
 use Rattle.base.specs.Seq.{tabulate, cell}
 use Rattle.field.specs.Field.{add, mul}
@@ -14,26 +15,29 @@ use Rattle.field.specs.FiniteSum.{sum}
 unfoldable pub product : ℕ → List ℕ → List ℕ → List ℕ → ℕ → ℕ → ℕ → ℕ
 product b src places coeffs stride i p = sum (length places) (λ j. mul (cell stride coeffs i j) (cell b src (getD places j 0) p))
 
--- What a product asks of the lengths of src, coeffs and out: out has rows blocks of b bytes, there is a row of coefficients for each, and each place names
--- a block that src has.
-pub record Fits (rows b stride : ℕ) (places : List ℕ) (src coeffs out : ℕ) : Type 0 where
-  pub room : out ≡ rows * b
-  pub row : (i : ℕ) → i < rows → i * stride + length places ≤ coeffs
+-- x where the test holds, else 0
+abbrev pub when : Bool → ℕ → ℕ
+when true x = x
+when false x = 0
+
+-- what block j gets of the first n terms of f, where term i goes to the block that targets names at place i: the sum of those that go there
+unfoldable pub arriving : ℕ → List ℕ → (ℕ → ℕ) → ℕ → ℕ
+arriving n targets f j = sum n (λ i. when (eqb (getD targets i 0) j) (f i))
+
+-- What a product asks of the lengths of src, coeffs and out: blocks are not empty, each target names a block that out has, there is a row of coefficients for it, and
+-- each place names a block that src has.
+pub record Fits (b stride : ℕ) (targets places : List ℕ) (src coeffs out : ℕ) : Type 0 where
+  pub some : 0 < b
+  pub target : (i : ℕ) → i < length targets → suc (getD targets i 0) * b ≤ out
+  pub row : (i : ℕ) → i < length targets → i * stride + length places ≤ coeffs
   pub block : (j : ℕ) → j < length places → suc (getD places j 0) * b ≤ src
 
--- new is the product; where it does not fit, nothing is written
-pub record Multiplied (rows b stride : ℕ) (src places coeffs old new : List ℕ) : Type 0 where
+-- new is old, and each block plus the rows that go to it; where the product does not fit, nothing is written
+pub record Added (b stride : ℕ) (src targets places coeffs old new : List ℕ) : Type 0 where
   pub same : length new ≡ length old
-  pub written : Fits rows b stride places (length src) (length coeffs) (length old) → (i p : ℕ) → i < rows → p < b
-      → cell b new i p ≡ product b src places coeffs stride i p
-  pub kept : (Fits rows b stride places (length src) (length coeffs) (length old) → ⊥) → new ≡ old
-
--- new is old plus the product; where it does not fit, nothing is written
-pub record Added (rows b stride : ℕ) (src places coeffs old new : List ℕ) : Type 0 where
-  pub same : length new ≡ length old
-  pub written : Fits rows b stride places (length src) (length coeffs) (length old) → (i p : ℕ) → i < rows → p < b
-      → cell b new i p ≡ add (cell b old i p) (product b src places coeffs stride i p)
-  pub kept : (Fits rows b stride places (length src) (length coeffs) (length old) → ⊥) → new ≡ old
+  pub written : Fits b stride targets places (length src) (length coeffs) (length old) → (j p : ℕ) → p < b
+      → cell b new j p ≡ add (cell b old j p) (arriving (length targets) targets (λ i. product b src places coeffs stride i p) j)
+  pub kept : (Fits b stride targets places (length src) (length coeffs) (length old) → ⊥) → new ≡ old
 
 -- ---- of the private functions; no statement about a call rests on these names
 

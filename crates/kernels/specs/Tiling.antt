@@ -1,5 +1,5 @@
 -- What the private functions of the tiled product compute; no statement about a call rests on these names. A tile is 64 bytes. Columns go in groups of
--- four, and the table of a group is 16 tiles, the sums over every choice of its columns. Assumes nothing.
+-- four, the last of up to five, and the table of a group has the 16 or 32 tiles that are the sums over every choice of its columns. Assumes nothing.
 use mathlib.Core.Path.{_≡_}
 use mathlib.Core.List.{List}
 use Prim.Native.Nat.{ℕ, zero, suc, _+_, _-_, _*_, _/_, _%_, _^_, _≤_, _<_, min}
@@ -7,6 +7,7 @@ use lib.ListN.{length, getD}
 use Rattle.base.specs.Seq.{tabulate, cell}
 use Rattle.field.specs.Field.{add, mul}
 use Rattle.field.specs.FiniteSum.{sum}
+use Rattle.kernels.specs.Blocks.{arriving}
 
 -- ---- digits
 
@@ -19,9 +20,19 @@ unfoldable pub number : ℕ → (ℕ → ℕ) → ℕ
 number zero d = 0
 number (suc m) d = number m d * 2 + d m
 
--- how many of the first n columns are in group g
-abbrev pub columns : ℕ → ℕ → ℕ
-columns n g = min (n - g * 4) 4
+-- ---- groups
+
+-- how many groups n columns make
+abbrev pub groupsOf : ℕ → ℕ
+groupsOf n = suc ((n - 2) / 4)
+
+-- how many of m columns that are left the next group has: all if they are at most five, else four
+abbrev pub taken : ℕ → ℕ
+taken m = min m (4 + (1 - (m - 5)))
+
+-- how many of n columns are in group g
+unfoldable pub columns : ℕ → ℕ → ℕ
+columns n g = taken (n - g * 4)
 
 -- ---- tables
 
@@ -41,7 +52,7 @@ pub record Raised (half t : ℕ) (part old new : List ℕ) : Type 0 where
 
 -- a group's table, byte p of column k being x k p: the entry that m digits name is the sum of the columns whose digit is 1
 pub record Chosen (w m : ℕ) (x : ℕ → ℕ → ℕ) (table : List ℕ) : Type 0 where
-  pub size : length table ≡ 1024
+  pub size : length table ≡ 2048
   pub entry : (d : ℕ → ℕ) (p : ℕ) → ((k : ℕ) → d k < 2) → p < w → cell 64 table (number m d) p ≡ sum m (λ k. mul (d k) (x k p))
 
 -- new has such tables of the first t groups, of the w bytes from `at` on of the block at each place
@@ -64,10 +75,11 @@ shifted lanes = tabulate (length lanes) (λ i. getD lanes i 0 % 128 * 2)
 unfoldable pub longer : List ℕ → List ℕ → ℕ → ℕ → ℕ
 longer picks lanes s i = cell 32 picks s i % 128 * 2 + bit s (getD lanes i 0)
 
--- the picks of the first n columns: each has the digits that are bit 7 - s of the coefficients of row i in group g
-pub record Picked (rows stride : ℕ) (coeffs : List ℕ) (n : ℕ) (picks : List ℕ) : Type 0 where
+-- the picks of the first j of n columns: each has the digits that are bit 7 - s of the coefficients of row i in group g
+pub record Picked (rows stride : ℕ) (coeffs : List ℕ) (n j : ℕ) (picks : List ℕ) : Type 0 where
   pub size : length picks ≡ 2048
-  pub pick : (g s i : ℕ) → g < 8 → s < 8 → i < rows → cell 256 picks g (s * 32 + i) ≡ number (columns n g) (λ k. bit s (cell stride coeffs i (g * 4 + k)))
+  pub pick : (g s i : ℕ) → g < groupsOf n → s < 8 → i < rows
+      → cell 256 picks g (s * 32 + i) ≡ number (min (j - g * 4) (columns n g)) (λ k. bit s (cell stride coeffs i (g * 4 + k)))
 
 -- ---- rows
 
@@ -85,16 +97,15 @@ pub record Gathered (groups : ℕ) (table picks : List ℕ) (q : ℕ) (old new :
   pub same : length new ≡ length old
   pub sums : (p : ℕ) → p < 64 → getD new p 0 ≡ add (getD old p 0) (named groups table picks q p)
 
--- every group's pick at place q names an entry that its table has
+-- every group's pick at place q names an entry that the table has: there is room for 32 entries of the last group
 pub record Reached (groups q : ℕ) (table picks : List ℕ) : Type 0 where
-  pub room : groups * 1024 ≤ length table
+  pub room : groups * 1024 + 1024 ≤ length table
   pub lanes : groups * 256 ≤ length picks
-  pub small : (g : ℕ) → g < groups → cell 256 picks g q < 16
+  pub small : (g : ℕ) → g < groups → cell 256 picks g q < 32
 
--- f is added to the w bytes from `at` on of the first t rows; all else is as it was
-pub record Spanned (b at w : ℕ) (f : ℕ → ℕ → ℕ) (t : ℕ) (old new : List ℕ) : Type 0 where
+-- to the w bytes from `at` on of each block the first t rows of f are added that go to it; all else is as it was
+pub record Spanned (b at w : ℕ) (targets : List ℕ) (f : ℕ → ℕ → ℕ) (t : ℕ) (old new : List ℕ) : Type 0 where
   pub same : length new ≡ length old
-  pub done : (i p : ℕ) → i < t → p < w → cell b new i (at + p) ≡ add (cell b old i (at + p)) (f i p)
-  pub front : (i p : ℕ) → p < at → cell b new i p ≡ cell b old i p
-  pub back : (i p : ℕ) → at + w ≤ p → p < b → cell b new i p ≡ cell b old i p
-  pub rest : (i p : ℕ) → t ≤ i → p < b → cell b new i p ≡ cell b old i p
+  pub done : (j p : ℕ) → p < w → cell b new j (at + p) ≡ add (cell b old j (at + p)) (arriving t targets (λ i. f i p) j)
+  pub front : (j p : ℕ) → p < at → cell b new j p ≡ cell b old j p
+  pub back : (j p : ℕ) → at + w ≤ p → p < b → cell b new j p ≡ cell b old j p

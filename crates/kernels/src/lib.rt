@@ -4,69 +4,61 @@ mod picks;
 mod tables;
 mod tiles;
 
-use base::is_product;
 use base::wide;
 use field::times;
 ghost use mathlib.Core.Path.{_≡_};
 ghost use mathlib.Core.Bool.{false};
-ghost use Prim.Native.Nat.{_≤_};
-ghost use lib.ListN.{length, replicate};
-ghost use Rattle.kernels.specs.Blocks.{Fits, Multiplied, Added};
+ghost use Prim.Native.Nat.{_≤_, _<_};
+ghost use lib.ListN.{length};
+ghost use Rattle.kernels.specs.Blocks.{Fits, Added};
 ghost use Rattle.kernels.specs.Blocks.{Rows, Inside, Decided, plusMultiple, Accumulated};
 
-// out += a matrix of coefficients times the blocks of src at the given places. Row i of the coefficients begins at i·stride.
+// A matrix of coefficients times the blocks of src at the given places: row i is added to the block of out that targets names at place i. Row i of the
+// coefficients begins at i·stride.
 pub fn add_product(
     out: &mut [u8],
-    rows: usize,
+    targets: &[u8],
     b: usize,
     src: &[u8],
     places: &[u8],
     coeffs: &[u8],
     stride: usize,
 )
-    ensures { λ _. ⌜ Added rows b stride (now (src .entry)) (now (places .entry)) (now (coeffs .entry)) (now (out .entry)) (now (out .exit)) ⌝ }
+    ensures { λ _. ⌜ Added b stride (now (src .entry)) (now (targets .entry)) (now (places .entry)) (now (coeffs .entry)) (now (out .entry)) (now (out .exit)) ⌝ }
 {
-    if !fits(rows, b, stride, places, src.len(), coeffs.len(), out.len()) {
+    if !fits(
+        b,
+        stride,
+        targets,
+        places,
+        src.len(),
+        coeffs.len(),
+        out.len(),
+    ) {
         return;
     }
-    add_fitting(out, rows, b, src, places, coeffs, stride);
-}
-
-// out := the same product, whatever out held.
-pub fn product(
-    out: &mut [u8],
-    rows: usize,
-    b: usize,
-    src: &[u8],
-    places: &[u8],
-    coeffs: &[u8],
-    stride: usize,
-)
-    ensures { λ _. ⌜ Multiplied rows b stride (now (src .entry)) (now (places .entry)) (now (coeffs .entry)) (now (out .entry)) (now (out .exit)) ⌝ }
-{
-    if !fits(rows, b, stride, places, src.len(), coeffs.len(), out.len()) {
-        return;
-    }
-    clear(out);
-    add_fitting(out, rows, b, src, places, coeffs, stride);
+    add_fitting(out, targets, b, src, places, coeffs, stride);
 }
 
 // Whether the product fits. No step overflows, whatever the numbers.
 fn fits(
-    rows: usize,
     b: usize,
     stride: usize,
+    targets: &[u8],
     places: &[u8],
     src: usize,
     coeffs: usize,
     out: usize,
 ) -> bool
-    ensures { λ r. ⌜ Decided (Fits rows b stride (now (places .entry)) src coeffs out) r ⌝ }
+    ensures { λ r. ⌜ Decided (Fits b stride (now (targets .entry)) (now (places .entry)) src coeffs out) r ⌝ }
 {
-    if !is_product(out, rows, b) {
+    if b == 0 {
         return false;
     }
-    if !rows_fit(rows, places.len(), stride, coeffs) {
+    if !rows_fit(targets.len(), places.len(), stride, coeffs) {
+        return false;
+    }
+    if !places_fit(b, targets, out) {
         return false;
     }
     places_fit(b, places, src)
@@ -90,11 +82,9 @@ fn rows_fit(rows: usize, width: usize, stride: usize, coeffs: usize) -> bool
 
 // Whether each place names a block that src has.
 fn places_fit(b: usize, places: &[u8], src: usize) -> bool
+    requires { ⌜ 0 < b ⌝ }
     ensures { λ r. ⌜ Decided (Inside b (now (places .entry)) src) r ⌝ }
 {
-    if b == 0 {
-        return true;
-    }
     let count = src / b;
     let mut j = 0;
     while j < places.len() {
@@ -106,41 +96,28 @@ fn places_fit(b: usize, places: &[u8], src: usize) -> bool
     true
 }
 
-// dst := 0
-fn clear(dst: &mut [u8])
-    ensures { λ _. ⌜ now (dst .exit) ≡ replicate (length (now (dst .entry))) 0 ⌝ }
-{
-    let end = dst.len();
-    let mut p = 0;
-    while p < end {
-        dst[p] = 0;
-        p += 1;
-    }
-}
-
-// out += the product, by the way that is the faster one.
+// The same where it fits, by the way that is the faster one.
 fn add_fitting(
     out: &mut [u8],
-    rows: usize,
+    targets: &[u8],
     b: usize,
     src: &[u8],
     places: &[u8],
     coeffs: &[u8],
     stride: usize,
 )
-    requires { ⌜ Fits rows b stride (now places) (length (now src)) (length (now coeffs)) (length (now out)) ⌝ }
-    ensures { λ _. ⌜ Added rows b stride (now (src .entry)) (now (places .entry)) (now (coeffs .entry)) (now (out .entry)) (now (out .exit)) ⌝ }
+    requires { ⌜ Fits b stride (now targets) (now places) (length (now src)) (length (now coeffs)) (length (now out)) ⌝ }
+    ensures { λ _. ⌜ Added b stride (now (src .entry)) (now (targets .entry)) (now (places .entry)) (now (coeffs .entry)) (now (out .entry)) (now (out .exit)) ⌝ }
 {
-    let width = places.len();
-    if prefers_rows(rows, out.len(), width) {
-        add_rows(out, rows, b, src, places, coeffs, stride);
+    if prefers_rows(targets.len(), b, places.len()) {
+        add_rows(out, targets, b, src, places, coeffs, stride);
         return;
     }
-    tiles::add_tiled(out, rows, b, src, places, coeffs, stride);
+    tiles::add_tiled(out, targets, b, src, places, coeffs, stride);
 }
 
-// Whether a product of size bytes is added row by row: few bytes do not pay for tables, and those have room for 32 rows and columns.
-fn prefers_rows(rows: usize, size: usize, width: usize) -> bool
+// Whether a product is added row by row: few bytes do not pay for tables, and those have room for 32 rows and columns.
+fn prefers_rows(rows: usize, b: usize, width: usize) -> bool
     ensures { λ r. ⌜ (r ≡ false → (rows ≤ 32) × (width ≤ 32)) ⌝ }
 {
     if 32 < width {
@@ -152,29 +129,32 @@ fn prefers_rows(rows: usize, size: usize, width: usize) -> bool
     if rows < 2 {
         return true;
     }
-    if width < 3 {
-        return size <= 192;
+    if 192 < b {
+        return false;
     }
-    size <= 128
+    if width < 3 {
+        return rows * b <= 192;
+    }
+    rows * b <= 128
 }
 
-// To each row of out its row of the product is added.
+// Row by row.
 fn add_rows(
     out: &mut [u8],
-    rows: usize,
+    targets: &[u8],
     b: usize,
     src: &[u8],
     places: &[u8],
     coeffs: &[u8],
     stride: usize,
 )
-    requires { ⌜ Fits rows b stride (now places) (length (now src)) (length (now coeffs)) (length (now out)) ⌝ }
-    ensures { λ _. ⌜ Added rows b stride (now (src .entry)) (now (places .entry)) (now (coeffs .entry)) (now (out .entry)) (now (out .exit)) ⌝ }
+    requires { ⌜ Fits b stride (now targets) (now places) (length (now src)) (length (now coeffs)) (length (now out)) ⌝ }
+    ensures { λ _. ⌜ Added b stride (now (src .entry)) (now (targets .entry)) (now (places .entry)) (now (coeffs .entry)) (now (out .entry)) (now (out .exit)) ⌝ }
 {
     let width = places.len();
     let mut i = 0;
-    while i < rows {
-        let at = i * b;
+    while i < targets.len() {
+        let at = wide(targets[i]) * b;
         let end = at + b;
         let row = i * stride;
         let stop = row + width;

@@ -1,8 +1,7 @@
-// The sums of a tile, 64 bytes of a block, over every choice of columns from a group of four.
-use crate::clear;
-use base::shorter;
+// The sums of a tile, 64 bytes of a block, over every choice of columns from a group.
 use base::wide;
 use blocks::add_block;
+use blocks::clear;
 use blocks::copy_block;
 use field::double;
 ghost use mathlib.Core.Path.{_≡_};
@@ -11,9 +10,10 @@ ghost use lib.ListN.{length};
 ghost use Rattle.base.specs.Parts.{partOf, putBlock};
 ghost use Rattle.blocks.specs.Bytes.{plus};
 ghost use Rattle.kernels.specs.Blocks.{Inside};
-ghost use Rattle.kernels.specs.Tiling.{multiple, tileAt, Raised, Chosen, Tabled};
+ghost use Rattle.kernels.specs.Tiling.{groupsOf, taken, multiple, tileAt, Raised, Chosen, Tabled};
 
-// The table of every group: the sums of the w bytes from `at` on of the blocks at its places.
+// The table of every group: the sums of the w bytes from `at` on of the blocks at its places. Each is lent room for five columns; a
+// group that is not the last has four and leaves the second half of it to the next.
 pub(crate) fn fill_groups(
     table: &mut [u8],
     groups: usize,
@@ -25,25 +25,35 @@ pub(crate) fn fill_groups(
 )
     requires { ⌜ Inside b (now places) (length (now src)) ⌝ }
     requires { ⌜ (at + w ≤ b) × (w ≤ 64) ⌝ }
-    requires { ⌜ (groups * 4 ≤ length (now places) + 3) × (groups * 1024 ≤ length (now table)) ⌝ }
+    requires { ⌜ (groups ≡ groupsOf (length (now places))) × (groups * 1024 + 1024 ≤ length (now table)) ⌝ }
     ensures { λ _. ⌜ Tabled b at w (now (src .entry)) (now (places .entry)) groups (now (table .entry)) (now (table .exit)) ⌝ }
 {
     let mut g = 0;
     while g < groups {
         let j = g * 4;
-        let end = j + shorter(4, places.len() - j);
+        let end = j + group_size(places.len() - j);
         let first = g * 1024;
-        let last = first + 1024;
+        let last = first + 2048;
         fill_group(&mut table[first..last], b, at, w, src, &places[j..end]);
         g += 1;
     }
+}
+
+// How many of the columns that are left the next group has.
+fn group_size(left: usize) -> usize
+    ensures { λ r. ⌜ r ≡ taken left ⌝ }
+{
+    if left < 6 {
+        return left;
+    }
+    4
 }
 
 // Entry n of a group's table: the sum of the columns that the bits of n name, the last column by the lowest bit.
 fn fill_group(table: &mut [u8], b: usize, at: usize, w: usize, src: &[u8], places: &[u8])
     requires { ⌜ Inside b (now places) (length (now src)) ⌝ }
     requires { ⌜ (at + w ≤ b) × (w ≤ 64) ⌝ }
-    requires { ⌜ (length (now places) ≤ 4) × (length (now table) ≡ 1024) ⌝ }
+    requires { ⌜ (length (now places) ≤ 5) × (length (now table) ≡ 2048) ⌝ }
     ensures { λ _. ⌜ Chosen w (length (now (places .entry))) (tileAt b at (now (src .entry)) (now (places .entry))) (now (table .exit)) ⌝ }
 {
     clear(&mut table[0..64]);
@@ -60,7 +70,7 @@ fn fill_group(table: &mut [u8], b: usize, at: usize, w: usize, src: &[u8], place
 
 // Entries half to 2·half - 1: each entry below half, plus the column. A byte that the column does not have counts as 00.
 fn add_column(table: &mut [u8], half: usize, part: &[u8])
-    requires { ⌜ (length (now table) ≡ 1024) × (half ≤ 8) ⌝ }
+    requires { ⌜ (length (now table) ≡ 2048) × (half ≤ 16) ⌝ }
     ensures { λ _. ⌜ Raised half half (now (part .entry)) (now (table .entry)) (now (table .exit)) ⌝ }
 {
     let mut tile = [0u8; 64];

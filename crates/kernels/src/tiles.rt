@@ -1,7 +1,8 @@
-// A product in tiles of 64 bytes, by the bits of the coefficients: c·x is the sum of 02^s·x over the bits s that c has. Columns go in groups of four: the 16 sums of
-// a group's tiles are found once, and then every row takes, for each bit from the top, one sum of each group, and doubles before the next bit. Nothing branches on a
-// coefficient.
+// A product in tiles of 64 bytes, by the bits of the coefficients: c·x is the sum of 02^s·x over the bits s that c has. Columns go in groups of four, the last of up
+// to five: the 16 or 32 sums of a group's tiles are found once, and then every row takes, for each bit from the top, one sum of each group, and doubles before the
+// next bit. Nothing branches on a coefficient.
 use crate::picks::fill_picks;
+use crate::picks::groups_of;
 use crate::tables::add_part;
 use crate::tables::add_tile;
 use crate::tables::double_tile;
@@ -13,32 +14,32 @@ ghost use Prim.Native.Nat.{ℕ, _+_, _*_, _≤_, _<_};
 ghost use lib.ListN.{length, replicate};
 ghost use Rattle.base.specs.Seq.{tabulate};
 ghost use Rattle.blocks.specs.Bytes.{plus};
-ghost use Rattle.kernels.specs.Blocks.{Fits, Added};
+ghost use Rattle.kernels.specs.Blocks.{Inside, Fits, Added};
 ghost use Rattle.kernels.specs.Tiling.{byBits, Gathered, Reached, Spanned};
 
 // out += a product of at most 32 rows and 32 columns. Doubling the zeros of the first tile changes nothing; it makes the compiler lay the table on a boundary
 // of 16 bytes, so that a load from it is part of a sum.
 pub(crate) fn add_tiled(
     out: &mut [u8],
-    rows: usize,
+    targets: &[u8],
     b: usize,
     src: &[u8],
     places: &[u8],
     coeffs: &[u8],
     stride: usize,
 )
-    requires { ⌜ Fits rows b stride (now places) (length (now src)) (length (now coeffs)) (length (now out)) ⌝ }
-    requires { ⌜ (rows ≤ 32) × (length (now places) ≤ 32) ⌝ }
-    ensures { λ _. ⌜ Added rows b stride (now (src .entry)) (now (places .entry)) (now (coeffs .entry)) (now (out .entry)) (now (out .exit)) ⌝ }
+    requires { ⌜ Fits b stride (now targets) (now places) (length (now src)) (length (now coeffs)) (length (now out)) ⌝ }
+    requires { ⌜ (length (now targets) ≤ 32) × (length (now places) ≤ 32) ⌝ }
+    ensures { λ _. ⌜ Added b stride (now (src .entry)) (now (targets .entry)) (now (places .entry)) (now (coeffs .entry)) (now (out .entry)) (now (out .exit)) ⌝ }
 {
-    let mut table = [0u8; 8192];
+    let mut table = [0u8; 9216];
     double_tile(&mut table[..64usize]);
     let mut picks = [0u8; 2048];
     add_tiles(
         &mut table,
         &mut picks,
         out,
-        rows,
+        targets,
         b,
         src,
         places,
@@ -52,33 +53,33 @@ fn add_tiles(
     table: &mut [u8],
     picks: &mut [u8],
     out: &mut [u8],
-    rows: usize,
+    targets: &[u8],
     b: usize,
     src: &[u8],
     places: &[u8],
     coeffs: &[u8],
     stride: usize,
 )
-    requires { ⌜ Fits rows b stride (now places) (length (now src)) (length (now coeffs)) (length (now out)) ⌝ }
-    requires { ⌜ (rows ≤ 32) × (length (now places) ≤ 32) ⌝ }
-    requires { ⌜ (8192 ≤ length (now table)) × (now picks ≡ replicate 2048 0) ⌝ }
-    ensures { λ _. ⌜ Added rows b stride (now (src .entry)) (now (places .entry)) (now (coeffs .entry)) (now (out .entry)) (now (out .exit)) ⌝ }
+    requires { ⌜ Fits b stride (now targets) (now places) (length (now src)) (length (now coeffs)) (length (now out)) ⌝ }
+    requires { ⌜ (length (now targets) ≤ 32) × (length (now places) ≤ 32) ⌝ }
+    requires { ⌜ (9216 ≤ length (now table)) × (now picks ≡ replicate 2048 0) ⌝ }
+    ensures { λ _. ⌜ Added b stride (now (src .entry)) (now (targets .entry)) (now (places .entry)) (now (coeffs .entry)) (now (out .entry)) (now (out .exit)) ⌝ }
 {
-    fill_picks(picks, rows, places.len(), coeffs, stride);
-    let groups = (places.len() + 3) / 4;
+    fill_picks(picks, targets.len(), places.len(), coeffs, stride);
+    let groups = groups_of(places.len());
     let mut at = 0;
     while at < b {
         let w = shorter(64, b - at);
         fill_groups(table, groups, b, at, w, src, places);
-        add_tile_rows(out, rows, b, at, w, table, groups, picks);
+        add_tile_rows(out, targets, b, at, w, table, groups, picks);
         at += w;
     }
 }
 
-// To the w bytes from `at` on of each row of out, their sum of the tables' entries is added.
+// To the w bytes from `at` on of each target's block, their sum of the tables' entries is added.
 fn add_tile_rows(
     out: &mut [u8],
-    rows: usize,
+    targets: &[u8],
     b: usize,
     at: usize,
     w: usize,
@@ -86,13 +87,14 @@ fn add_tile_rows(
     groups: usize,
     picks: &[u8],
 )
-    requires { ⌜ (length (now out) ≡ rows * b) × (at + w ≤ b) × (w ≤ 64) × (rows ≤ 32) ⌝ }
-    requires { ⌜ ((i s : ℕ) → i < rows → s < 8 → Reached groups (s * 32 + i) (now table) (now picks)) ⌝ }
-    ensures { λ _. ⌜ Spanned b at w (λ i. byBits groups (now (table .entry)) (now (picks .entry)) i 8) rows (now (out .entry)) (now (out .exit)) ⌝ }
+    requires { ⌜ Inside b (now targets) (length (now out)) ⌝ }
+    requires { ⌜ (at + w ≤ b) × (w ≤ 64) × (length (now targets) ≤ 32) ⌝ }
+    requires { ⌜ ((i s : ℕ) → i < length (now targets) → s < 8 → Reached groups (s * 32 + i) (now table) (now picks)) ⌝ }
+    ensures { λ _. ⌜ Spanned b at w (now (targets .entry)) (λ i. byBits groups (now (table .entry)) (now (picks .entry)) i 8) (length (now (targets .entry))) (now (out .entry)) (now (out .exit)) ⌝ }
 {
     let mut i = 0;
-    while i < rows {
-        let start = i * b + at;
+    while i < targets.len() {
+        let start = wide(targets[i]) * b + at;
         let end = start + w;
         add_row(&mut out[start..end], table, groups, picks, i);
         i += 1;

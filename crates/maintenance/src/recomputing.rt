@@ -1,9 +1,9 @@
 // Blocks from parts and blocks.
+use blocks::clear;
 use coefficients::completion_rows;
 use coefficients::in_order;
 use coefficients::places_of;
 use kernels::add_product;
-use kernels::product;
 use params::NodeSet;
 use params::Params;
 ghost use mathlib.Core.Path.{_≡_};
@@ -22,7 +22,8 @@ pub(crate) fn recompute(
     ensures { λ _. ⌜ Recomputed a (from .0) (targets .0) (now (codeword .entry)) (now (fresh .exit)) ⌝ }
 {
     let q = from.size();
-    let places = places_of(from);
+    let mut places = [0u8; 32];
+    places_of(from, &mut places);
     extend(
         a.b,
         0,
@@ -88,7 +89,17 @@ fn extend_within(
     let first = rows * e;
     let second = rows * q;
     let order = in_order();
+    let columns = in_order();
     completion_rows(e, at, targets, &mut leading[..first], &mut gains[..second]);
-    product(out, rows, b, message, &order[..e], &leading[..first], e);
-    add_product(out, rows, b, z, places, &gains[..second], q);
+    clear(out);
+    add_product(
+        out,
+        &order[..rows],
+        b,
+        message,
+        &columns[..e],
+        &leading[..first],
+        e,
+    );
+    add_product(out, &order[..rows], b, z, places, &gains[..second], q);
 }

@@ -4,7 +4,7 @@ use mathlib.Core.Logic.{_↔_, ⊎-elim}
 use mathlib.Core.Bool.{Bool, true, false, not, _&&_, and-true, true≢false}
 use mathlib.Core.List.{List, [], _++_, append-nil}
 use Prim.Native.Nat.{ℕ, zero, suc, _+_, _-_, _*_, _/_, _%_, _^_, min, _≤_, _<_, zero-le}
-use native.Mathlib.Nat.{not-suc-le-zero, le-refl, le-trans, zero-lt-suc, one-mul, zero-min, min-le-left, mod-one, mod-lt, mod-eq-of-lt, div-eq-of-lt, div-lt-iff-lt-mul, lt-of-lt-of-le, lt-of-le-of-lt}
+use native.Mathlib.Nat.{not-suc-le-zero, le-refl, le-trans, zero-lt-suc, one-mul, zero-min, sub-zero, zero-sub, suc-sub-suc, min-le-left, mod-one, mod-lt, mod-eq-of-lt, div-eq-of-lt, div-lt-iff-lt-mul, lt-of-lt-of-le, lt-of-le-of-lt}
 use native.Mathlib.Numerals.{one-add}
 use native.Mathlib.Omega.{arith}
 use native.Mathlib.Decide.{le-ind}
@@ -12,12 +12,12 @@ use lib.Arith.{lt-one}
 use lib.Bits.{bitAnd, and-step, and-shr, and-le-l}
 use lib.Count.{ones, ones-cat}
 use lib.Dec.{leb, eqb}
-use lib.ListN.{length, getD, length-append, List·getD-append}
+use lib.ListN.{length, getD, drop, replicate, length-append, List·getD-append}
 use lib.Pow.{pow-pos, pow-mono, shr-lt, mod-pow-add}
 use lib.Seq.{getD-at}
 use borrow.Author.Tests.{ltb-true, eqb-true, eqb-false, lt-ltb, leb-true, le-leb, lt-leb, eq-eqb}
 use Rattle.base.proofs.Cases.{lt-or}
-use Rattle.params.specs.Nodes.{has, size, within, disjoint, one, count, only, nodes, outside}
+use Rattle.params.specs.Nodes.{has, size, within, disjoint, one, count, only, nodes, outside, Listing}
 
 -- ---- one node
 
@@ -251,6 +251,15 @@ disjoint-has l r h = (
     apart false b f = refl
     apart true true f = absurd (f refl refl)
     apart true false f = refl
+
+-- what NodeSet::list makes of 32 zeros
+pub listing-zeros : (s : ℕ) (new : List ℕ) → Listing s (replicate 32 0) new → new ≡ nodes (has s) 32 ++ replicate (32 - size s) 0
+listing-zeros s new l = l .written refl ∙ ap (λ (r : List ℕ). nodes (has s) 32 ++ r) (drop-replicate 32 (size s))
+  where
+    drop-replicate : (n k : ℕ) → drop k (replicate {A = ℕ} n 0) ≡ replicate (n - k) 0
+    drop-replicate n zero = simp sub-zero
+    drop-replicate zero (suc k) = simp zero-sub
+    drop-replicate (suc n) (suc k) = simp suc-sub-suc (drop-replicate n k)
 
 -- ---- a set by its nodes
 

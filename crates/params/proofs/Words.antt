@@ -10,12 +10,12 @@ use native.Mathlib.Omega.{arith}
 use lib.Bits.{bitAnd}
 use lib.Count.{trailingZeros, under}
 use lib.Dec.{leb, eqb}
-use lib.ListN.{set, replicate}
+use lib.ListN.{length, getD, drop, set, length-append, length-drop}
 use lib.Pow.{pow-pos, shl-exact, shr-lt, shr-shr, shr-le, split, high, ones-split}
-use lib.Seq.{set-at, append-snoc}
+use lib.Seq.{set-at, drop-cons, append-snoc}
 use borrow.Author.Tests.{leb-true, le-leb, eq-eqb}
 use Rattle.base.proofs.Cases.{lt-or}
-use Rattle.params.specs.Nodes.{has, size, one, count, only, nodes, outside}
+use Rattle.params.specs.Nodes.{has, one, count, only, nodes, outside, Listing}
 use Rattle.params.proofs.Sets.{length-nodes, count-le, rank-lt, nodes-stop, count-stop, range-yes, range-no, size-count, has-past, has-none, has-and}
 
 -- 1 shifted by less than the width
@@ -110,20 +110,22 @@ lowest (suc k) n p h = go (n % 2) refl (lowest k (n / 2))
         low f (suc j) l = ap (λ (x : ℕ). x % 2) (sym (half j)) ∙ f j (omega arith)
     go (suc r) e rest = (ap (λ (x : ℕ). x % 2) (div-one n) ∙ omega arith, λ j l. absurd (not-suc-le-zero l))
 
--- The nodes up to `passed` are listed; the bits above are left.
-pub record Walked (s : ℕ) (out : List ℕ) (at passed rest : ℕ) : Type 0 where
+-- The nodes up to `passed` are listed, and what stands behind them is as it was; the bits above are left.
+pub record Walked (s : ℕ) (old out : List ℕ) (at passed rest : ℕ) : Type 0 where
   pub small : s < 2 ^ 32
+  pub room : length old ≡ 32
   pub passed-le : passed ≤ 32
-  pub listed : out ≡ nodes (has s) passed ++ replicate (32 - at) 0
+  pub listed : out ≡ nodes (has s) passed ++ drop at old
   pub at-is : at ≡ count (has s) passed
   pub left : rest ≡ s / 2 ^ passed
 
-pub walked-none : (s : ℕ) → s < 2 ^ 32 → Walked s (replicate 32 0) 0 0 s
+pub walked-none : (s : ℕ) (old : List ℕ) → s < 2 ^ 32 → length old ≡ 32 → Walked s old old 0 0 s
 unfolding nodes count
-walked-none s h = record { small = h; passed-le = zero-le; listed = refl; at-is = refl; left = sym (div-one s) }
+walked-none s old h room =
+    record { small = h; room = room; passed-le = zero-le; listed = refl; at-is = refl; left = sym (div-one s) }
 
 -- the next node of the set
-module _ {s : ℕ} {out : List ℕ} {at passed rest : ℕ} (w : Walked s out at passed rest) (ne : rest ≡ 0 → ⊥) where
+module _ {s : ℕ} {old out : List ℕ} {at passed rest : ℕ} (w : Walked s old out at passed rest) (ne : rest ≡ 0 → ⊥) where
   bit-at : (j : ℕ) → rest / 2 ^ j ≡ s / 2 ^ (passed + j)
   bit-at j = ap (λ (x : ℕ). x / 2 ^ j) (w .left) ∙ shr-shr s passed j
 
@@ -153,7 +155,7 @@ module _ {s : ℕ} {out : List ℕ} {at passed rest : ℕ} (w : Walked s out at 
   at-lt =
       omega (arith, same-count, count-le (has s) 32, rank-lt (has s) 32 (passed + trailingZeros 32 rest) next-lt next-in)
 
-  pub walked-more : Walked s (set out at (passed + trailingZeros 32 rest + 1)) (at + 1) (passed + trailingZeros 32 rest + 1)
+  pub walked-more : Walked s old (set out at (passed + trailingZeros 32 rest + 1)) (at + 1) (passed + trailingZeros 32 rest + 1)
       (rest / 2 ^ trailingZeros 32 rest / 2)
   unfolding nodes count
   walked-more =
@@ -161,29 +163,39 @@ module _ {s : ℕ} {out : List ℕ} {at passed rest : ℕ} (w : Walked s out at 
       let j = passed + t in
       let listed : nodes (has s) (suc j) ≡ nodes (has s) passed ++ suc j ∷ [] =
       ap₂ (λ (l : List ℕ) (b : Bool). l ++ only b (suc j)) (nodes-stop (has s) passed j (omega arith) none-between) next-in in
-      let space : 32 - at ≡ suc (32 - (at + 1)) = omega (arith, at-lt) in
-      let fresh : replicate {A = ℕ} (32 - at) 0 ≡ 0 ∷ replicate (32 - (at + 1)) 0 = ap (λ (n : ℕ). replicate {A = ℕ} n 0) space in
+      let behind : drop at old ≡ getD old at 0 ∷ drop (at + 1) old =
+      drop-cons old at 0 (omega (arith, at-lt, w .room)) ∙ ap (λ (n : ℕ). getD old at 0 ∷ drop n old) (sym (add-one at)) in
       record {
         small = w .small;
+        room = w .room;
         passed-le = omega (arith, next-lt);
         listed =
-            ap (λ (l : List ℕ). set l at (j + 1)) (w .listed ∙ ap (λ (l : List ℕ). nodes (has s) passed ++ l) fresh)
-            ∙ set-at (nodes (has s) passed) 0 (replicate (32 - (at + 1)) 0) (j + 1) at (length-nodes (has s) passed ∙ sym (w .at-is))
-            ∙ sym (append-snoc (nodes (has s) passed) (j + 1) (replicate (32 - (at + 1)) 0))
-            ∙ ap (λ (n : ℕ). (nodes (has s) passed ++ n ∷ []) ++ replicate (32 - (at + 1)) 0) (add-one j)
-            ∙ ap (λ (l : List ℕ). l ++ replicate (32 - (at + 1)) 0) (sym listed)
-            ∙ ap (λ (n : ℕ). nodes (has s) n ++ replicate (32 - (at + 1)) 0) (sym (add-one j));
+            ap (λ (l : List ℕ). set l at (j + 1)) (w .listed ∙ ap (λ (l : List ℕ). nodes (has s) passed ++ l) behind)
+            ∙ set-at (nodes (has s) passed) (getD old at 0) (drop (at + 1) old) (j + 1) at (length-nodes (has s) passed ∙ sym (w .at-is))
+            ∙ sym (append-snoc (nodes (has s) passed) (j + 1) (drop (at + 1) old))
+            ∙ ap (λ (n : ℕ). (nodes (has s) passed ++ n ∷ []) ++ drop (at + 1) old) (add-one j)
+            ∙ ap (λ (l : List ℕ). l ++ drop (at + 1) old) (sym listed)
+            ∙ ap (λ (n : ℕ). nodes (has s) n ++ drop (at + 1) old) (sym (add-one j));
         at-is = omega (arith, same-count, ap one next-in, ap (count (has s)) (add-one j));
         left = ap (λ (x : ℕ). x / 2) (bit-at t) ∙ shr-shr s j 1;
       }
 
--- no bit is left
-pub walked-all : {s : ℕ} {out : List ℕ} {at passed rest : ℕ} → Walked s out at passed rest → rest ≡ 0
-    → out ≡ nodes (has s) 32 ++ replicate (32 - size s) 0
-walked-all {s} {out} {at} {passed} w e =
-    let below : s < 2 ^ passed =
-    subst (λ (x : ℕ). s < x) (one-mul (2 ^ passed)) (div-lt-iff-lt-mul (pow-pos passed) .0 (omega (arith, w .left))) in
-    w .listed
-    ∙ ap₂ (λ (l : List ℕ) (n : ℕ). l ++ replicate {A = ℕ} (32 - n) 0)
-    (sym (nodes-stop (has s) passed 32 (w .passed-le) (λ j hj hk. has-past passed s j below hj)))
-    (w .at-is ∙ sym (size-count passed s below))
+module _ {s : ℕ} {old out : List ℕ} {at passed rest : ℕ} (w : Walked s old out at passed rest) where
+  pub walked-length : length out ≡ 32
+  walked-length =
+      ap length (w .listed) ∙ length-append (nodes (has s) passed) (drop at old)
+      ∙ omega (arith, length-nodes (has s) passed, w .at-is, count-le (has s) passed, w .passed-le, length-drop at old, w .room)
+
+  -- no bit is left
+  pub walked-all : rest ≡ 0 → Listing s old out
+  walked-all e =
+      let below : s < 2 ^ passed =
+      subst (λ (x : ℕ). s < x) (one-mul (2 ^ passed)) (div-lt-iff-lt-mul (pow-pos passed) .0 (omega (arith, w .left))) in
+      record {
+        written = λ room.
+            w .listed
+            ∙ ap₂ (λ (l : List ℕ) (n : ℕ). l ++ drop n old)
+            (sym (nodes-stop (has s) passed 32 (w .passed-le) (λ j hj hk. has-past passed s j below hj)))
+            (w .at-is ∙ sym (size-count passed s below));
+        kept = λ none. absurd (none (w .room));
+      }

@@ -1,10 +1,12 @@
 -- Nodes and node sets (document 01, "The arrangement and the record"). A set is also a test on node numbers, f : ℕ → Bool. Assumes nothing.
+use mathlib.Core.Path.{_≡_}
 use mathlib.Core.Bool.{Bool, true, false, not, _&&_}
 use mathlib.Core.List.{List, [], _∷_, _++_}
 use Prim.Native.Nat.{ℕ, zero, suc, _+_, _/_, _%_, _^_}
 use lib.Dec.{leb, ltb, eqb}
 use lib.Bits.{bitAnd}
 use lib.Count.{ones}
+use lib.ListN.{length, drop}
 
 -- "A choice of traps is a 32-bit number; trap i is worth 2^(i−1), so no trap can be named twice." Node suc j is in the set when bit j is 1.
 unfoldable pub has : ℕ → ℕ → Bool
@@ -41,6 +43,11 @@ only false i = []
 unfoldable pub nodes : (ℕ → Bool) → ℕ → List ℕ
 nodes f zero = []
 nodes f (suc n) = nodes f n ++ only (f (suc n)) (suc n)
+
+-- The set's nodes in rising order stand at the front of new, and behind them what old had; where old has not 32 places, new is old.
+pub record Listing (s : ℕ) (old new : List ℕ) : Type 0 where
+  pub written : length old ≡ 32 → new ≡ nodes (has s) 32 ++ drop (size s) old
+  pub kept : (length old ≡ 32 → ⊥) → new ≡ old
 
 -- The nodes of 1..n outside the set, as a test.
 abbrev pub outside : ℕ → ℕ → ℕ → Bool

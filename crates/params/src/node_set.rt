@@ -3,11 +3,9 @@ use super::Node;
 use super::NodeSet;
 ghost use mathlib.Core.Path.{_≡_};
 ghost use mathlib.Core.Bool.{_&&_};
-ghost use mathlib.Core.List.{_++_};
-ghost use Prim.Native.Nat.{ℕ, _-_};
+ghost use Prim.Native.Nat.{ℕ};
 ghost use lib.Dec.{leb};
-ghost use lib.ListN.{replicate};
-ghost use Rattle.params.specs.Nodes.{has, size, within, disjoint, outside, nodes};
+ghost use Rattle.params.specs.Nodes.{has, size, within, disjoint, outside, Listing};
 
 impl NodeSet {
     pub fn size(self) -> usize
@@ -55,11 +53,14 @@ impl NodeSet {
         NodeSet(!self.0 & ((1u32 << n) - 1))
     }
 
-    // The nodes in rising order, then zeros: each turn passes the nodes up to the next of the set.
-    pub fn list(self) -> [u8; 32]
-        ensures { λ r. ⌜ r ≡ nodes (has (self .0)) 32 ++ replicate (32 - size (self .0)) 0 ⌝ }
+    // The nodes in rising order go to the front of out, which has 32 places; what stands behind them is as it was. Where out has not 32 places, nothing is
+    // written. Each turn passes the nodes up to the next of the set.
+    pub fn list(self, out: &mut [u8])
+        ensures { λ _. ⌜ Listing (self .0) (now (out .entry)) (now (out .exit)) ⌝ }
     {
-        let mut out = [0u8; 32];
+        if out.len() != 32 {
+            return;
+        }
         let mut at: usize = 0;
         let mut passed: u32 = 0;
         let mut rest = self.0;
@@ -70,6 +71,5 @@ impl NodeSet {
             out[at] = passed as u8;
             at += 1;
         }
-        out
     }
 }

@@ -1,2 +1,2 @@
 mod Vanishing
-mod AddedBlocks
+mod Targets

@@ -1,5 +1,5 @@
--- The rows that extend a change, applied to it, give the differences: at each byte place the change's polynomial is 00 at the nodes outside W, so that the
--- leading rows alone take it to its values at W's nodes. Assumes nothing.
+-- The rows that extend a change, applied to it, give what it makes of W's blocks: at each byte place the change's polynomial is 00 at the nodes outside W, so
+-- that the leading rows alone take it to its values at W's nodes. Assumes nothing.
 use mathlib.Core.Path.{_≡_, sym, ap, ap₂, _∙_}
 use mathlib.Core.Bool.{true, false, not, _&&_}
 use mathlib.Core.List.{List, _++_}
@@ -17,21 +17,22 @@ use Rattle.field.proofs.Multiplication.{mul-zero-right}
 use Rattle.field.proofs.FiniteSum.{sum-ext, sum-zeros}
 use Rattle.interpolation.specs.Polynomial.{evaluate}
 use Rattle.interpolation.proofs.Rows.{cell-byte}
-use Rattle.params.specs.Nodes.{has, size, count, outside}
+use Rattle.params.specs.Nodes.{has, size, outside}
 use Rattle.params.specs.Params.{slackParts}
-use Rattle.gates.specs.Valid.{DeltaAccepted}
 use Rattle.params.specs.declared.Params.{Params}
 use Rattle.base.proofs.Questions.{both-known, both-le}
-use Rattle.params.proofs.Sets.{rank-lt, node-at-rank, size-count, entry, outside-has, outside-size}
+use Rattle.params.proofs.Sets.{size-count, entry, outside-has, outside-size}
 use Rattle.code.specs.Code.{point, block}
-use Rattle.code.specs.Calls.{Vanishes, Differences}
+use Rattle.code.specs.Calls.{Vanishes}
 use Rattle.code.proofs.Pairs.{spread-exists}
-use Rattle.kernels.specs.Blocks.{Fits, Multiplied}
+use Rattle.kernels.specs.Blocks.{Fits, Added}
+use Rattle.kernels.proofs.Arriving.{arriving-ext}
 use Rattle.coefficients.specs.Coefficients.{listed, inOrder, pointAt, Extends, Roomy}
-use Rattle.coefficients.proofs.Laws.{fits-first, product-first, cell-front}
+use Rattle.coefficients.proofs.Laws.{product-fits, first-length, first-inside, product-first, cell-front}
+use Rattle.updates.specs.Spreading.{Spreadable, Spread}
 
-module _ (a : Params) (d old : List ℕ) (to other : ℕ) (word : to < 2 ^ 32) (other-word : other < 2 ^ 32)
-    (ok : DeltaAccepted a (length d) (length old) to) (is : (i : ℕ) → has other i ≡ (outside (a .n) to i && leb i 32)) where
+module _ (a : Params) (d targets old : List ℕ) (to other : ℕ) (other-word : other < 2 ^ 32) (ok : Spreadable a (length d) to targets (length old))
+    (is : (i : ℕ) → has other i ≡ (outside (a .n) to i && leb i 32)) where
   -- as many nodes outside W as the slack has parts
   others : size other ≡ slackParts a
   unfolding slackParts
@@ -70,39 +71,39 @@ module _ (a : Params) (d old : List ℕ) (to other : ℕ) (word : to < 2 ^ 32) (
         let g = other-at o ho in
         ap (λ (c : ℕ). at p (size other) (point c)) (g .3) ∙ at-block p (size other) (suc (g .0)) others ∙ vanishes .zero (g .0) p (g .1) (g .2) hp
 
-    -- so the leading row at a node's rank gives the node's block
-    at-rank : (j p : ℕ) → j < a .n → has to (suc j) ≡ true → p < a .b
-        → sum (a .k) (λ i. mul (cell (a .k) leading (count (has to) j) i) (cell (a .b) d i p)) ≡ block a d v (suc j) p
+    -- so a leading row gives the block of its node
+    at-rank : (t p : ℕ) → t < size to → p < a .b → sum (a .k) (λ i. mul (cell (a .k) leading t i) (cell (a .b) d i p)) ≡ block a d v (getD (listed to) t 0) p
     unfolding at
-    at-rank j p hj h hp =
-        let t = count (has to) j in
-        let low : j < 32 = omega (arith, ok .valid .shape .n-high) in
+    at-rank t p ht hp =
         sym
         (extends .takes (λ i. cell (a .b) d i p) (λ i. cell (a .b) v i p) (λ i. cell-byte (a .b) d i p bytes)
-        (λ i. cell-byte (a .b) v i p (vanishes .slack .bytes)) t (omega (arith, rank-lt (has to) 32 j low h, size-count 32 to word))
+        (λ i. cell-byte (a .b) v i p (vanishes .slack .bytes)) t ht
         ∙ ap (add (sum (a .k) (λ i. mul (cell (a .k) leading t i) (cell (a .b) d i p))))
         (sum-zeros (size other) _ (λ o ho. ap (mul (cell (size other) gains t o)) (clears p o hp ho) ∙ mul-zero-right _))
         ∙ add-zero-right _)
-        ∙ ap (λ (c : ℕ). at p (size other) (point c)) (node-at-rank (has to) 32 j low h)
-        ∙ at-block p (size other) (suc j) others
+        ∙ at-block p (size other) (getD (listed to) t 0) others
 
-  pub differences : (leading gains rest order new : List ℕ) → length leading ≡ a .w * a .k → Extends (a .k) other to leading gains → Bytes d
-      → order ≡ inOrder → Multiplied (a .w) (a .b) (a .k) d (take (a .k) order) (leading ++ rest) old new → Differences a d to new
-  differences leading gains rest order new full extends bytes o made =
+  pub spread : (leading gains rest order new : List ℕ) → length leading ≡ a .w * a .k → Extends (a .k) other to leading gains → Bytes d → order ≡ inOrder
+      → Added (a .b) (a .k) d targets (take (a .k) order) (leading ++ rest) old new → Spread a d to targets old new
+  spread leading gains rest order new full extends bytes o made =
       let v = ok .valid in
       let k : a .k ≤ 32 = omega (arith, v .shape .k-le-w, v .shape .w-le-n, v .shape .n-high) in
-      let fits : Fits (a .w) (a .b) (a .k) (take (a .k) order) (length d) (length (leading ++ rest)) (length old) =
-      fits-first order o (a .k) k (a .w) (a .b) (a .k) (length d) (length (leading ++ rest)) (length old) (ok .out-length) (le-refl (a .k))
-      (omega (arith, full, length-append leading rest)) (omega (arith, ok .change-length)) in
+      let fits : Fits (a .b) (a .k) targets (take (a .k) order) (length d) (length (leading ++ rest)) (length old) =
+      product-fits (a .b) (a .k) (length d) (length (leading ++ rest)) (length old) targets (take (a .k) order) (v .b-low) (ok .target)
+      (omega (arith, first-length order o (a .k) k)) (omega (arith, ap (λ (m : ℕ). m * a .k) (ok .count), full, length-append leading rest))
+      (first-inside order o (a .k) k (a .b) (a .k) (length d) (le-refl (a .k)) (omega (arith, ok .change-length))) in
       let s = spread-exists a to v (ok .to-within) (ok .to-size) d in
       record {
         slack = s .0;
         vanishes = s .1;
-        length-is = made .same ∙ ok .out-length;
-        holds = λ j p hj h hp.
-            let t = count (has to) j in
-            let rank : t < a .w = omega (arith, rank-lt (has to) 32 j (omega (arith, v .shape .n-high)) h, size-count 32 to word, ok .to-size) in
-            made .written fits t p rank hp ∙ product-first order o (a .k) k (a .b) (a .k) d (leading ++ rest) t p
-            ∙ sum-ext (a .k) _ _ (λ i hi. ap (λ (y : ℕ). mul y (cell (a .b) d i p)) (cell-front (a .k) (a .w) leading rest full t i rank hi))
-            ∙ at-rank leading gains extends bytes (s .0) (s .1) j p hj h hp;
+        same = made .same;
+        added = λ j p hp.
+            made .written fits j p hp
+            ∙ ap (add (cell (a .b) old j p))
+            (arriving-ext (length targets) targets _ _ j
+            (λ t ht.
+            product-first order o (a .k) k (a .b) (a .k) d (leading ++ rest) t p
+            ∙ sum-ext (a .k) _ _
+            (λ i hi. ap (λ (y : ℕ). mul y (cell (a .b) d i p)) (cell-front (a .k) (a .w) leading rest full t i (omega (arith, ok .count)) hi))
+            ∙ at-rank leading gains extends bytes (s .0) (s .1) t p (omega (arith, ok .count, ok .to-size)) hp));
       }

@@ -5,7 +5,8 @@ use native.Mathlib.Omega.{arith}
 use borrow.Author.Needs.{needs}
 use denote.Ref.{now}
 use lib.ListN.{take}
-use Rattle.coefficients.proofs.Laws.{areas-fit, size-most, front-fits, front-count, front-is}
+use Rattle.params.proofs.Sets.{listing-zeros}
+use Rattle.coefficients.proofs.Laws.{areas-fit, size-most, Lists, front-fits, front-count, front-is}
 use Rattle.coefficients.proofs.Completion.{Lent, completable, extends-made, no-leading-room, no-gains-room}
 use Rattle.coefficients.proofs.completion_rows.Statement.{statement}
 use Rattle.coefficients.proofs.completion_rows.Tie as tie
@@ -19,17 +20,24 @@ at-most c = subst⁻¹ (λ (k : ℕ). k ≤ 32) (c .size .ensures) (size-most _ 
 targets-most : (c : tie.After-size2) → c .size2 .result ≤ 32
 targets-most c = subst⁻¹ (λ (k : ℕ). k ≤ 32) (c .size2 .ensures) (size-most _ (word (c .before .before .before .before) .1))
 
+at-lists : (c : tie.After-list) → Lists (c .before .before .before .before .before .before .before .before .before .args .at .0) (c .list .last .1 .0)
+at-lists c = listing-zeros _ _ (c .list .ensures)
+
+targets-lists : (c : tie.After-list2) → Lists (c .before .before .before .before .before .before .before .before .before .before .before .before .args .targets .0) (c .list2 .last .1 .0)
+targets-lists c = listing-zeros _ _ (c .list2 .ensures)
+
 -- the nodes that are lent
-lent : (c : tie.After-list2) → Lent (c .before .before .before .before .before .before .before .before .before .args .at .0) (c .before .before .before .before .before .before .before .before .before .args .targets .0) (c .before .before .before .before .before .before .size .result) (c .before .before .before .before .before .size2 .result)
-    (take (c .before .before .before .before .before .before .size .result) (c .before .list .result)) (take (c .before .before .before .before .before .size2 .result) (c .list2 .result))
+lent : (c : tie.After-list2) → Lent (c .before .before .before .before .before .before .before .before .before .before .before .before .args .at .0) (c .before .before .before .before .before .before .before .before .before .before .before .before .args .targets .0) (c .before .before .before .before .before .before .before .before .before .size .result) (c .before .before .before .before .before .before .before .before .size2 .result)
+    (take (c .before .before .before .before .before .before .before .before .before .size .result) (c .before .before .before .list .last .1 .0)) (take (c .before .before .before .before .before .before .before .before .size2 .result) (c .list2 .last .1 .0))
 lent c =
+    let w = word (c .before .before .before .before .before .before .before .before .before .before .before .before) in
     record {
-      at-word = word (c .before .before .before .before .before .before .before .before .before) .0;
-      targets-word = word (c .before .before .before .before .before .before .before .before .before) .1;
-      at-size = c .before .before .before .before .before .before .size .ensures;
-      targets-size = c .before .before .before .before .before .size2 .ensures;
-      known-is = front-is _ (word (c .before .before .before .before .before .before .before .before .before) .0) (c .before .list .result) (c .before .list .ensures) _ (c .before .before .before .before .before .before .size .ensures);
-      wanted-is = front-is _ (word (c .before .before .before .before .before .before .before .before .before) .1) (c .list2 .result) (c .list2 .ensures) _ (c .before .before .before .before .before .size2 .ensures);
+      at-word = w .0;
+      targets-word = w .1;
+      at-size = c .before .before .before .before .before .before .before .before .before .size .ensures;
+      targets-size = c .before .before .before .before .before .before .before .before .size2 .ensures;
+      known-is = front-is _ (w .0) _ (at-lists (c .before .before .before)) _ (c .before .before .before .before .before .before .before .before .before .size .ensures);
+      wanted-is = front-is _ (w .1) _ (targets-lists c) _ (c .before .before .before .before .before .before .before .before .size2 .ensures);
     }
 
 size-requires : tie.Need-size-requires
@@ -53,8 +61,14 @@ mul-if3 c = omega (arith, areas-fit _ _ (targets-most (c .before .before)) (at-m
 returns-3 : tie.Need-returns-3
 returns-3 c = no-gains-room (c .before .before .before .before .before .before .before .args .e) _ _ _ _ (now (c .before .before .before .before .before .before .before .args .leading)) (now (c .before .before .before .before .before .before .before .args .gains)) (c .before .before .before .before .size .ensures) (c .before .before .before .size2 .ensures) (c .if3 .taken)
 
+slice-aggregate-list : tie.Need-slice-aggregate-list
+slice-aggregate-list c = search needs
+
 list-requires : tie.Need-list-requires
 list-requires c κs = search needs
+
+slice-aggregate-list-2 : tie.Need-slice-aggregate-list-2
+slice-aggregate-list-2 c = search needs
 
 list-requires-2 : tie.Need-list-requires-2
 list-requires-2 c κs = search needs
@@ -72,19 +86,29 @@ slice-aggregate-complete-2 : tie.Need-slice-aggregate-complete-2
 slice-aggregate-complete-2 c = search needs
 
 array-share-prefix-known : tie.Need-array-share-prefix-known
-array-share-prefix-known c = front-fits _ (word (c .before .before .before .before .before .before .before .before .before .before .before .before .before) .0) (c .before .before .before .before .before .list .result) (c .before .before .before .before .before .list .ensures) _ (c .before .before .before .before .before .before .before .before .before .before .size .ensures)
+array-share-prefix-known c =
+    let l = c .before .before .before .before .before .before .before .before in
+    front-fits _ (word (l .before .before .before .before .before .before .before .before .before) .0) _ (at-lists l) _ (l .before .before .before .before .before .before .size .ensures)
 
 slice-aggregate-complete-3 : tie.Need-slice-aggregate-complete-3
-slice-aggregate-complete-3 c = front-count _ (word (c .before .before .before .before .before .before .before .before .before .before .before .before .before .before) .0) (c .before .before .before .before .before .before .list .result) (c .before .before .before .before .before .before .list .ensures) _ (c .before .before .before .before .before .before .before .before .before .before .before .size .ensures)
+slice-aggregate-complete-3 c =
+    let l = c .before .before .before .before .before .before .before .before .before in
+    front-count _ (word (l .before .before .before .before .before .before .before .before .before) .0) _ (at-lists l) _ (l .before .before .before .before .before .before .size .ensures)
 
 array-share-prefix-wanted : tie.Need-array-share-prefix-wanted
-array-share-prefix-wanted c = front-fits _ (word (c .before .before .before .before .before .before .before .before .before .before .before .before .before .before) .1) (c .before .before .before .before .before .list2 .result) (c .before .before .before .before .before .list2 .ensures) _ (c .before .before .before .before .before .before .before .before .before .before .size2 .ensures)
+array-share-prefix-wanted c =
+    let l = c .before .before .before .before .before .before in
+    front-fits _ (word (l .before .before .before .before .before .before .before .before .before .before .before .before) .1) _ (targets-lists l) _ (l .before .before .before .before .before .before .before .before .size2 .ensures)
 
 slice-aggregate-complete-4 : tie.Need-slice-aggregate-complete-4
-slice-aggregate-complete-4 c = front-count _ (word (c .before .before .before .before .before .before .before .before .before .before .before .before .before .before .before) .1) (c .before .before .before .before .before .before .list2 .result) (c .before .before .before .before .before .before .list2 .ensures) _ (c .before .before .before .before .before .before .before .before .before .before .before .size2 .ensures)
+slice-aggregate-complete-4 c =
+    let l = c .before .before .before .before .before .before .before in
+    front-count _ (word (l .before .before .before .before .before .before .before .before .before .before .before .before) .1) _ (targets-lists l) _ (l .before .before .before .before .before .before .before .before .size2 .ensures)
 
 complete-requires : tie.Need-complete-requires
-complete-requires c κs = (c .before .before .before .before .before .before .before .logs .ensures, (c .before .before .before .before .before .powers .ensures, completable (c .before .before .before .before .before .before .before .before .before .before .before .before .before .before .before .before .before .args .e) _ _ _ _ _ _ _ _ (lent (c .before .before .before .before .before .before .before .before)) (omega arith) (c .before .before .before .before .before .before .before .before .before .before .before .if2 .left) (c .before .before .before .before .before .before .before .before .before .before .if3 .left)))
+complete-requires c κs =
+    let l = c .before .before .before .before .before .before .before .before .before in
+    (c .before .before .before .before .before .before .before .logs .ensures, (c .before .before .before .before .before .powers .ensures, completable (l .before .before .before .before .before .before .before .before .before .before .before .before .args .e) _ _ _ _ _ _ _ _ (lent l) (omega arith) (l .before .before .before .before .before .before .if2 .left) (l .before .before .before .before .before .if3 .left)))
 
 same-length : tie.Need-same-length
 same-length c = search needs
@@ -94,8 +118,11 @@ same-length-2 c = search needs
 
 returns-4 : tie.Need-returns-4
 returns-4 c =
-    extends-made (c .before .before .before .before .before .before .before .before .before .before .before .before .before .before .before .before .before .before .before .before .before .before .args .e) _ _ _ _ _ _ (now (c .before .before .before .before .before .before .before .before .before .before .before .before .before .before .before .before .before .before .before .before .before .before .args .leading)) (now (c .before .before .before .before .before .before .before .before .before .before .before .before .before .before .before .before .before .before .before .before .before .before .args .gains)) (lent (c .before .before .before .before .before .before .before .before .before .before .before .before .before)) (omega arith) (c .before .before .before .before .before .before .before .before .before .before .before .before .before .before .before .before .if2 .left) (c .before .before .before .before .before .before .before .before .before .before .before .before .before .before .before .if3 .left) _ _
-    (c .before .before .before .before .complete .kept .1 .1 .1 .1 .1 .0) (c .before .before .before .before .complete .kept .1 .1 .1 .1 .1 .1 .0) (c .before .before .before .before .complete .ensures)
+    let r = c .before .before .before .before in
+    let l = r .before .before .before .before .before .before .before .before .before .before in
+    let s = l .before .before .before .before .before .before .before .before .before .before .before .before in
+    extends-made (s .args .e) _ _ _ _ _ _ (now (s .args .leading)) (now (s .args .gains)) (lent l) (omega arith) (l .before .before .before .before .before .before .if2 .left) (l .before .before .before .before .before .if3 .left) _ _
+    (r .complete .kept .1 .1 .1 .1 .1 .0) (r .complete .kept .1 .1 .1 .1 .1 .1 .0) (r .complete .ensures)
 
 pub completion-rows-spec : {M : Type 1} → statement M
 completion-rows-spec =
@@ -108,7 +135,9 @@ completion-rows-spec =
     returns-2
     mul-if3
     returns-3
+    slice-aggregate-list
     list-requires
+    slice-aggregate-list-2
     list-requires-2
     logs-requires
     slice-aggregate-complete

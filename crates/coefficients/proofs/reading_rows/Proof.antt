@@ -5,8 +5,9 @@ use native.Mathlib.Omega.{arith}
 use borrow.Author.Needs.{needs}
 use denote.Ref.{now}
 use lib.ListN.{take}
+use Rattle.params.proofs.Sets.{listing-zeros}
 use Rattle.coefficients.specs.Coefficients.{listed}
-use Rattle.coefficients.proofs.Laws.{areas-fit, size-most, front-fits, front-count, front-is}
+use Rattle.coefficients.proofs.Laws.{areas-fit, size-most, Lists, front-fits, front-count, front-is}
 use Rattle.coefficients.proofs.Values.{listed-readable, reads-kept, reads-made}
 use Rattle.coefficients.proofs.reading_rows.Statement.{statement}
 use Rattle.coefficients.proofs.reading_rows.Tie as tie
@@ -17,9 +18,12 @@ word c = omega arith
 most : (c : tie.After-size) → c .size .result ≤ 32
 most c = subst⁻¹ (λ (k : ℕ). k ≤ 32) (c .size .ensures) (size-most _ (word (c .before .before)))
 
+lists : (c : tie.After-list) → Lists (c .before .before .before .before .before .args .from .0) (c .list .last .1 .0)
+lists c = listing-zeros _ _ (c .list .ensures)
+
 -- the nodes that are lent
-lent : (c : tie.After-list) → take (c .before .before .size .result) (c .list .result) ≡ listed (c .before .before .before .before .args .from .0)
-lent c = front-is _ (word (c .before .before .before .before)) (c .list .result) (c .list .ensures) _ (c .before .before .size .ensures)
+lent : (c : tie.After-list) → take (c .before .before .before .size .result) (c .list .last .1 .0) ≡ listed (c .before .before .before .before .before .args .from .0)
+lent c = front-is _ (word (c .before .before .before .before .before)) _ (lists c) _ (c .before .before .before .size .ensures)
 
 size-requires : tie.Need-size-requires
 size-requires c κs = search needs
@@ -29,6 +33,9 @@ mul-if1 c = omega (arith, areas-fit _ _ (most c) (most c))
 
 returns : tie.Need-returns
 returns c = reads-kept (c .before .before .before .args .from .0) _ (now (c .before .before .before .args .rows)) (c .before .size .ensures) (c .if1 .taken)
+
+slice-aggregate-list : tie.Need-slice-aggregate-list
+slice-aggregate-list c = search needs
 
 list-requires : tie.Need-list-requires
 list-requires c κs = search needs
@@ -46,21 +53,28 @@ slice-aggregate-basis-rows-2 : tie.Need-slice-aggregate-basis-rows-2
 slice-aggregate-basis-rows-2 c = search needs
 
 array-share-prefix-nodes : tie.Need-array-share-prefix-nodes
-array-share-prefix-nodes c = front-fits _ (word (c .before .before .before .before .before .before .before .before)) (c .before .before .before .before .list .result) (c .before .before .before .before .list .ensures) _ (c .before .before .before .before .before .before .size .ensures)
+array-share-prefix-nodes c =
+    let l = c .before .before .before .before .before in
+    front-fits _ (word (l .before .before .before .before .before)) _ (lists l) _ (l .before .before .before .size .ensures)
 
 slice-aggregate-basis-rows-3 : tie.Need-slice-aggregate-basis-rows-3
-slice-aggregate-basis-rows-3 c = front-count _ (word (c .before .before .before .before .before .before .before .before .before)) (c .before .before .before .before .before .list .result) (c .before .before .before .before .before .list .ensures) _ (c .before .before .before .before .before .before .before .size .ensures)
+slice-aggregate-basis-rows-3 c =
+    let l = c .before .before .before .before .before .before in
+    front-count _ (word (l .before .before .before .before .before)) _ (lists l) _ (l .before .before .before .size .ensures)
 
 basis-rows-requires : tie.Need-basis-rows-requires
-basis-rows-requires c κs = (c .before .before .before .before .before .logs .ensures, (c .before .before .before .powers .ensures, listed-readable _ _ _ _ (word (c .before .before .before .before .before .before .before .before .before .before)) (lent (c .before .before .before .before .before .before)) (c .before .before .before .before .before .before .before .before .size .ensures) (c .before .before .before .before .before .before .before .if1 .left)))
+basis-rows-requires c κs =
+    let l = c .before .before .before .before .before .before .before in
+    (c .before .before .before .before .before .logs .ensures, (c .before .before .before .powers .ensures, listed-readable _ _ _ _ (word (l .before .before .before .before .before)) (lent l) (l .before .before .before .size .ensures) (l .before .before .if1 .left)))
 
 same-length : tie.Need-same-length
 same-length c = search needs
 
 returns-2 : tie.Need-returns-2
 returns-2 c =
-    let s = c .before .before .before .before .before .before .before .before .before .before .before .before .before in
-    reads-made (s .args .from .0) _ _ (now (s .args .rows)) _ (word s) (c .before .before .before .before .before .before .before .before .before .before .before .size .ensures) (c .before .before .before .before .before .before .before .before .before .before .if1 .left) (c .before .before .basis-rows .kept .1 .1 .1 .0) (lent (c .before .before .before .before .before .before .before .before .before)) (c .before .before .basis-rows .ensures)
+    let l = c .before .before .before .before .before .before .before .before .before .before in
+    let s = l .before .before .before .before .before in
+    reads-made (s .args .from .0) _ _ (now (s .args .rows)) _ (word s) (l .before .before .before .size .ensures) (l .before .before .if1 .left) (c .before .before .basis-rows .kept .1 .1 .1 .0) (lent l) (c .before .before .basis-rows .ensures)
 
 pub reading-rows-spec : {M : Type 1} → statement M
 reading-rows-spec =
@@ -69,6 +83,7 @@ reading-rows-spec =
     size-requires
     mul-if1
     returns
+    slice-aggregate-list
     list-requires
     logs-requires
     slice-aggregate-basis-rows

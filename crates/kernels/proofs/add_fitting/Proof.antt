@@ -16,7 +16,7 @@ returns : tie.Need-returns
 returns c = search needs
 
 add-tiled-requires : tie.Need-add-tiled-requires
-add-tiled-requires c κs = (c .before .before .before .before .before .before .before .pre, c .before .before .prefers-rows .ensures (c .before .if1 .left))
+add-tiled-requires c κs = (c .before .before .before .before .before .before .before .before .pre, c .before .before .prefers-rows .ensures (c .before .if1 .left))
 
 same-length-2 : tie.Need-same-length-2
 same-length-2 c = search needs

@@ -12,7 +12,7 @@ returns : tie.Need-returns
 returns c =
     record {
       same = refl;
-      written = λ f i p hi hp. absurd (c .before .fits2 .ensures .fails (not-true _ (c .if1 .taken)) f);
+      written = λ f j p hp. absurd (c .before .fits2 .ensures .fails (not-true _ (c .if1 .taken)) f);
       kept = λ ne. refl;
     }
 

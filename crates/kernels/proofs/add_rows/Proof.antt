@@ -1,32 +1,45 @@
--- After i turns the first i rows of the product are added, the others are as they were. Assumes nothing.
-use Prim.Native.Nat.{_+_, _-_, _*_, _≤_}
+-- After i turns the first i rows of the product are added to their targets. Assumes nothing.
+use mathlib.Core.Path.{_∙_, subst⁻¹}
+use Prim.Native.Nat.{ℕ, _+_, _-_, _*_, _≤_}
 use denote.Ref.{now}
 use native.Mathlib.Omega.{arith}
 use borrow.Author.Needs.{needs}
 use lib.ListN.{length}
-use Rattle.base.specs.Parts.{Blocked}
-use Rattle.base.proofs.Parts.{blocked-none, row-ends}
-use Rattle.kernels.proofs.RowByRow.{rowAt, part-inside, row-added, rows-added}
+use Rattle.kernels.specs.Blocks.{product}
+use Rattle.kernels.specs.Tiling.{Spanned}
+use Rattle.kernels.proofs.RowByRow.{part-inside, row-added, rows-added}
+use Rattle.kernels.proofs.Spans.{spanned-none}
 use Rattle.kernels.proofs.Stretches.{length-stretch}
+use Rattle.kernels.proofs.Summing.{block-end}
 use Rattle.kernels.proofs.add_rows.Statement.{statement}
 use Rattle.kernels.proofs.add_rows.Tie as tie
 
 abbrev Inv-loop : tie.InvT-loop
-Inv-loop out₀ rows b src places coeffs stride width i₀ out i = (i ≤ rows) × Blocked b rows (rowAt b stride src places coeffs out₀) i out₀ out
+Inv-loop out₀ targets b src places coeffs stride width i₀ out i = (i ≤ length targets) × Spanned b 0 b targets (λ i p. product b src places coeffs stride i p) i out₀ out
 
 abbrev μ-loop : tie.MeasureT-loop
-μ-loop out₀ rows b src places coeffs stride width i₀ out i = rows - i
+μ-loop out₀ targets b src places coeffs stride width i₀ out i = length targets - i
 
 loop-holds : tie.Need-loop-holds Inv-loop μ-loop
-loop-holds c = (omega arith, blocked-none _ _ _ _)
+loop-holds c = (omega arith, spanned-none _ _ _ _ _ _)
+
+shared-slice-read-wide : tie.Need-shared-slice-read-wide Inv-loop μ-loop
+shared-slice-read-wide c = search needs
+
+wide-requires : tie.Need-wide-requires Inv-loop μ-loop
+wide-requires c κs = search needs
 
 -- the lent parts end within out and coeffs
-module _ (c : tie.In-loop Inv-loop μ-loop) where
-  out-end : c .before .loop .i * c .before .before .before .before .before .before .args .b + c .before .before .before .before .before .before .args .b ≤ length (now (c .before .before .before .before .before .before .args .out))
-  out-end = row-ends (c .before .before .before .before .before .before .args .rows) (c .before .loop .i) (c .before .before .before .before .before .before .args .b) _ (omega arith) (omega (arith, c .before .before .before .before .before .before .pre .room))
+module _ (c : tie.After-wide Inv-loop μ-loop) where
+  out-end : c .wide .result * c .before .before .before .before .before .before .before .before .before .args .b + c .before .before .before .before .before .before .before .before .before .args .b ≤ length (c .before .before .before .loop .out)
+  out-end =
+      let s = c .before .before .before .before .before .before .before .before .before in
+      let l = c .before .before .before .loop in
+      subst⁻¹ (λ (k : ℕ). k * s .args .b + s .args .b ≤ length (l .out)) (c .wide .ensures)
+      (omega (arith, block-end (s .args .b) (now (s .args .targets)) (length (now (s .args .out))) (l .i) (s .pre .target) (omega arith), l .inv .1 .same))
 
-  row-end : c .before .loop .i * c .before .before .before .before .before .before .args .stride + length (now (c .before .before .before .before .before .before .args .places)) ≤ length (now (c .before .before .before .before .before .before .args .coeffs))
-  row-end = c .before .before .before .before .before .before .pre .row (c .before .loop .i) (omega arith)
+  row-end : c .before .before .before .loop .i * c .before .before .before .before .before .before .before .before .before .args .stride + length (now (c .before .before .before .before .before .before .before .before .before .args .places)) ≤ length (now (c .before .before .before .before .before .before .before .before .before .args .coeffs))
+  row-end = c .before .before .before .before .before .before .before .before .before .pre .row (c .before .before .before .loop .i) (omega arith)
 
 mul-at : tie.Need-mul-at Inv-loop μ-loop
 mul-at c = omega (arith, out-end c)
@@ -47,7 +60,7 @@ part-accumulate-start : tie.Need-part-accumulate-start Inv-loop μ-loop
 part-accumulate-start c = search needs
 
 part-accumulate-end : tie.Need-part-accumulate-end Inv-loop μ-loop
-part-accumulate-end c = omega (arith, out-end c, c .before .loop .inv .1 .same)
+part-accumulate-end c = omega (arith, out-end c)
 
 sub-accumulate-2 : tie.Need-sub-accumulate-2 Inv-loop μ-loop
 sub-accumulate-2 c = search needs
@@ -60,10 +73,10 @@ part-accumulate-end-2 c = omega (arith, row-end (c .before))
 
 accumulate-requires : tie.Need-accumulate-requires Inv-loop μ-loop
 accumulate-requires c κs =
-    let s = c .before .before .before .before .before .before .before .before in
-    let l = c .before .before .before .loop in (
+    let s = c .before .before .before .before .before .before .before .before .before .before .before in
+    let l = c .before .before .before .before .before .loop in (
       omega (arith, length-stretch (l .i * s .args .stride) (length (now (s .args .places))) (now (s .args .coeffs)) (row-end (c .before .before))),
-      part-inside (s .args .b) (l .i) _ (now (s .args .places)) (l .out) (omega (arith, out-end (c .before .before), l .inv .1 .same)) (s .pre .block),
+      part-inside (s .args .b) (c .before .before .wide .result) _ (now (s .args .places)) (l .out) (out-end (c .before .before)) (s .pre .block),
     )
 
 add-i : tie.Need-add-i Inv-loop μ-loop
@@ -74,18 +87,15 @@ loop-less c = search needs
 
 loop-again : tie.Need-loop-again Inv-loop μ-loop
 loop-again c =
-    let s = c .before .before .before .before .before .before .before .before .before .before .before in
-    let l = c .before .before .before .before .before .before .loop in (
-      omega arith,
-      row-added _ _ _ _ _ _ _ (s .pre) (l .i) (l .out) (c .before .before .accumulate .last .0) (omega arith) (l .inv .1) (c .before .before .accumulate .ensures),
-    )
+    let w = c .before .before .before .before .before in
+    let l = w .before .before .before .loop in
+    (omega arith, row-added _ _ _ _ _ _ _ (l .i) (w .wide .result) (l .out) (c .before .before .accumulate .last .0) (w .wide .ensures) (out-end w) (c .before .before .accumulate .ensures) (l .inv .1))
 
 same-length : tie.Need-same-length Inv-loop μ-loop
 same-length c = c .before .loop .inv .1 .same
 
 returns : tie.Need-returns Inv-loop μ-loop
-returns c =
-    rows-added _ _ _ _ _ _ _ (c .before .before .before .before .before .before .pre) (c .before .loop .i) _ (omega arith) (c .before .loop .inv .1)
+returns c = rows-added _ _ _ _ _ _ _ (c .before .loop .i) _ (c .before .before .before .before .before .before .before .pre) (omega arith) (c .before .loop .inv .1)
 
 pub add-rows-spec : {M : Type 1} → statement M
 add-rows-spec =
@@ -94,6 +104,8 @@ add-rows-spec =
     Inv-loop
     μ-loop
     loop-holds
+    shared-slice-read-wide
+    wide-requires
     mul-at
     add-end
     mul-row

@@ -5,7 +5,7 @@ use native.Mathlib.Omega.{arith}
 use borrow.Author.Needs.{needs}
 use borrow.Author.Count.{below-more}
 use lib.ListN.{length, getD}
-use Rattle.kernels.proofs.Fitting.{no-bytes, outside, inside}
+use Rattle.kernels.proofs.Fitting.{outside, inside}
 use Rattle.kernels.proofs.places_fit.Statement.{statement}
 use Rattle.kernels.proofs.places_fit.Tie as tie
 
@@ -14,9 +14,6 @@ Inv-loop b places src count j₀ j = (j ≤ length places) × ((k : ℕ) → k <
 
 abbrev μ-loop : tie.MeasureT-loop
 μ-loop b places src count j₀ j = length places - j
-
-returns : tie.Need-returns Inv-loop μ-loop
-returns c = no-bytes _ (now (c .before .before .args .places)) _ (c .if1 .taken)
 
 div-count : tie.Need-div-count Inv-loop μ-loop
 div-count c = search needs
@@ -30,8 +27,8 @@ shared-slice-read-wide c = search needs
 wide-requires : tie.Need-wide-requires Inv-loop μ-loop
 wide-requires c κs = search needs
 
-returns-2 : tie.Need-returns-2 Inv-loop μ-loop
-returns-2 c = outside _ (now (c .before .before .before .before .before .before .before .args .places)) _ (c .before .before .before .before .loop .j) (omega arith) (omega arith) (omega arith)
+returns : tie.Need-returns Inv-loop μ-loop
+returns c = outside _ (now (c .before .before .before .before .before .before .args .places)) _ (omega arith) (c .before .before .before .before .loop .j) (omega arith) (omega arith)
 
 add-j : tie.Need-add-j Inv-loop μ-loop
 add-j c = search needs
@@ -42,8 +39,8 @@ loop-less c = search needs
 loop-again : tie.Need-loop-again Inv-loop μ-loop
 loop-again c = (omega arith, below-more _ _ (c .before .before .before .before .loop .inv .1) (omega arith))
 
-returns-3 : tie.Need-returns-3 Inv-loop μ-loop
-returns-3 c = inside _ (now (c .before .before .before .before .args .places)) _ (omega arith) (λ k h. c .before .loop .inv .1 k (omega arith))
+returns-2 : tie.Need-returns-2 Inv-loop μ-loop
+returns-2 c = inside _ (now (c .before .before .before .args .places)) _ (omega arith) (λ k h. c .before .loop .inv .1 k (omega arith))
 
 pub places-fit-spec : {M : Type 1} → statement M
 places-fit-spec =
@@ -51,13 +48,12 @@ places-fit-spec =
     (tie.spec
     Inv-loop
     μ-loop
-    returns
     div-count
     loop-holds
     shared-slice-read-wide
     wide-requires
-    returns-2
+    returns
     add-j
     loop-less
     loop-again
-    returns-3)
+    returns-2)

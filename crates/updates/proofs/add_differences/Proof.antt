@@ -1,50 +1,52 @@
--- The differences' bytes fit a usize; each of the three rooms is enough for those that it is made for. Assumes nothing.
+-- The rows go to the blocks of W's nodes. Assumes nothing.
+use mathlib.Core.Path.{sym}
+use Prim.Native.Nat.{_^_, _<_}
+use native.Mathlib.Omega.{arith}
 use borrow.Author.Needs.{needs}
-use Rattle.gates.proofs.Valid.{blocks-fit}
+use denote.Ref.{now}
+use lib.Seq.{length-take-le}
+use Rattle.coefficients.proofs.Laws.{placing-zeros}
+use Rattle.updates.proofs.Targets.{in-place, updated}
 use Rattle.updates.proofs.add_differences.Statement.{statement}
 use Rattle.updates.proofs.add_differences.Tie as tie
 
-mul-size : tie.Need-mul-size
-mul-size c = let v = c .before .before .before .pre .valid in blocks-fit v _ (v .shape .w-le-n)
+word : (c : tie.Start) → c .args .to .0 < 2 ^ 32
+word c = omega arith
 
-add-few-requires : tie.Need-add-few-requires
-add-few-requires c κs = search needs
+slice-aggregate-places-of : tie.Need-slice-aggregate-places-of
+slice-aggregate-places-of c = search needs
+
+places-of-requires : tie.Need-places-of-requires
+places-of-requires c κs = search needs
+
+array-share-prefix-places : tie.Need-array-share-prefix-places
+array-share-prefix-places c = search needs
+
+slice-aggregate-spread : tie.Need-slice-aggregate-spread
+slice-aggregate-spread c = sym (length-take-le _ (c .before .before .places-of .last .1 .0) (array-share-prefix-places (c .before)))
+
+spread-requires : tie.Need-spread-requires
+spread-requires c κs =
+    let s = c .before .before .before .before .before .before .before in
+    in-place (s .args .a) (s .args .to .0) (word s) (now (s .args .change)) (now (s .args .codeword)) _ (s .pre) (placing-zeros _ _ (word s) (c .before .before .before .places-of .ensures))
 
 same-length : tie.Need-same-length
 same-length c = search needs
 
 returns : tie.Need-returns
-returns c = search needs
-
-add-more-requires : tie.Need-add-more-requires
-add-more-requires c κs = search needs
-
-same-length-2 : tie.Need-same-length-2
-same-length-2 c = search needs
-
-returns-2 : tie.Need-returns-2
-returns-2 c = search needs
-
-add-many-requires : tie.Need-add-many-requires
-add-many-requires c κs = search needs
-
-same-length-3 : tie.Need-same-length-3
-same-length-3 c = search needs
-
-returns-3 : tie.Need-returns-3
-returns-3 c = search needs
+returns c =
+    let s = c .before .before .before .before .before .before .before .before .before .before in
+    updated (s .args .a) (s .args .to .0) (word s) (now (s .args .change)) (now (s .args .codeword)) _ (s .pre) (placing-zeros _ _ (word s) (c .before .before .before .before .before .before .places-of .ensures)) _
+    (c .before .before .spread .ensures)
 
 pub add-differences-spec : {M : Type 1} → statement M
 add-differences-spec =
     tie.close
     (tie.spec
-    mul-size
-    add-few-requires
+    slice-aggregate-places-of
+    places-of-requires
+    array-share-prefix-places
+    slice-aggregate-spread
+    spread-requires
     same-length
-    returns
-    add-more-requires
-    same-length-2
-    returns-2
-    add-many-requires
-    same-length-3
-    returns-3)
+    returns)

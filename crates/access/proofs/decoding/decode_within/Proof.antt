@@ -1,11 +1,12 @@
 -- The rows take the blocks read to the message. Assumes nothing.
-use mathlib.Core.Path.{refl, sym, ap₂, _∙_}
+use mathlib.Core.Path.{_≡_, sym, ap₂, _∙_}
 use Prim.Native.Nat.{_*_, _^_, _≤_, _<_}
 use native.Mathlib.Omega.{arith}
 use borrow.Author.Needs.{needs}
 use denote.Ref.{now}
 use lib.Seq.{length-take-le}
-use Rattle.coefficients.proofs.Laws.{size-most, areas-fit}
+use Rattle.coefficients.specs.Coefficients.{placesOf}
+use Rattle.coefficients.proofs.Laws.{size-most, areas-fit, placing-zeros}
 use Rattle.access.proofs.ReadBack.{decoded}
 use Rattle.access.proofs.decoding.decode_within.Statement.{statement}
 use Rattle.access.proofs.decoding.decode_within.Tie as tie
@@ -27,26 +28,45 @@ area c = areas-fit _ _ (most c) (most c)
 mul-area : tie.Need-mul-area
 mul-area c = omega (arith, area c)
 
+slice-aggregate-places-of : tie.Need-slice-aggregate-places-of
+slice-aggregate-places-of c = search needs
+
 places-of-requires : tie.Need-places-of-requires
 places-of-requires c κs = search needs
 
+-- the numbers of the blocks read
+places : (c : tie.After-places-of) → c .places-of .last .1 .0 ≡ placesOf (c .before .before .before .before .before .before .args .from .0)
+places c = placing-zeros _ _ (word (c .before .before .before .before .before .before)) (c .places-of .ensures)
+
 slice-relend-prefix-reading-rows : tie.Need-slice-relend-prefix-reading-rows
-slice-relend-prefix-reading-rows c = omega (arith, area (c .before), c .before .before .before .before .before .pre .1)
+slice-relend-prefix-reading-rows c = omega (arith, area (c .before .before .before), c .before .before .before .before .before .before .before .pre .1)
 
 slice-aggregate-reading-rows : tie.Need-slice-aggregate-reading-rows
-slice-aggregate-reading-rows c = sym (length-take-le _ (now (c .before .before .before .before .before .before .args .rows)) (slice-relend-prefix-reading-rows (c .before)))
+slice-aggregate-reading-rows c = sym (length-take-le _ (now (c .before .before .before .before .before .before .before .before .args .rows)) (slice-relend-prefix-reading-rows (c .before)))
 
 reading-rows-requires : tie.Need-reading-rows-requires
 reading-rows-requires c κs = search needs
 
+in-order-requires : tie.Need-in-order-requires
+in-order-requires c κs = search needs
+
+clear-requires : tie.Need-clear-requires
+clear-requires c κs = search needs
+
+array-share-prefix-order : tie.Need-array-share-prefix-order
+array-share-prefix-order c = search needs
+
+slice-aggregate-add-product : tie.Need-slice-aggregate-add-product
+slice-aggregate-add-product c = sym (length-take-le _ (c .before .before .before .before .before .before .in-order .result) (array-share-prefix-order (c .before)))
+
 array-share-prefix-places : tie.Need-array-share-prefix-places
 array-share-prefix-places c = search needs
 
-slice-aggregate-product : tie.Need-slice-aggregate-product
-slice-aggregate-product c = sym (length-take-le _ (c .before .before .before .before .before .before .places-of .result) (array-share-prefix-places (c .before)))
+slice-aggregate-add-product-2 : tie.Need-slice-aggregate-add-product-2
+slice-aggregate-add-product-2 c = sym (length-take-le _ (c .before .before .before .before .before .before .before .before .before .before .before .before .before .places-of .last .1 .0) (array-share-prefix-places (c .before)))
 
-product-requires : tie.Need-product-requires
-product-requires c κs = search needs
+add-product-requires : tie.Need-add-product-requires
+add-product-requires c κs = search needs
 
 same-length : tie.Need-same-length
 same-length c = search needs
@@ -57,15 +77,17 @@ same-length-2 c = search needs
 returns : tie.Need-returns
 returns c =
     let p = c .before .before in
-    let r = p .before .before .before .before .before .before in
-    let l = r .before .before in
-    let z = l .before in
+    let e = p .before .before .before .before .before .before .before in
+    let o = e .before .before in
+    let r = o .before .before .before in
+    let l = r .before .before .before in
+    let z = l .before .before in
     let s = z .before .before .before .before in
     let full = sym (slice-aggregate-reading-rows (r .before)) in
-    decoded (s .args .a) (s .args .from .0) _ (word s) (now (s .args .codeword)) (s .pre .0) (z .size .result) (l .places-of .result)
-    (r .reading-rows .last .1 .0) _ (now (s .args .out)) _ refl (λ i. omega (arith, z .before .before .before .shared-slice-known .given i))
-    (z .size .ensures) (l .places-of .ensures) (r .reading-rows .ensures .same ∙ full)
-    (r .reading-rows .ensures .written (full ∙ ap₂ _*_ (z .size .ensures) (z .size .ensures))) (p .product .ensures)
+    decoded (s .args .a) (s .args .from .0) _ (word s) (now (s .args .codeword)) (s .pre .0) (z .size .result) (l .places-of .last .1 .0)
+    (o .in-order .result) (r .reading-rows .last .1 .0) _ _ _ (e .clear .ensures) (λ i. omega (arith, z .before .before .before .shared-slice-known .given i))
+    (z .size .ensures) (places l) (o .in-order .ensures) (r .reading-rows .ensures .same ∙ full)
+    (r .reading-rows .ensures .written (full ∙ ap₂ _*_ (z .size .ensures) (z .size .ensures))) (p .add-product .ensures)
 
 pub decode-within-spec : {M : Type 1} → statement M
 decode-within-spec =
@@ -73,13 +95,18 @@ decode-within-spec =
     (tie.spec
     size-requires
     mul-area
+    slice-aggregate-places-of
     places-of-requires
     slice-relend-prefix-reading-rows
     slice-aggregate-reading-rows
     reading-rows-requires
+    in-order-requires
+    clear-requires
+    array-share-prefix-order
+    slice-aggregate-add-product
     array-share-prefix-places
-    slice-aggregate-product
-    product-requires
+    slice-aggregate-add-product-2
+    add-product-requires
     same-length
     same-length-2
     returns)

@@ -4,63 +4,76 @@ use Prim.Native.Nat.{ℕ, _*_, _≤_}
 use native.Mathlib.Omega.{arith}
 use borrow.Author.Needs.{needs}
 use denote.Ref.{now}
-use lib.ListN.{take}
+use lib.ListN.{length, take, replicate}
 use lib.Seq.{length-take-le}
-use Rattle.gates.proofs.Valid.{working-held}
-use Rattle.coefficients.proofs.Laws.{areas-fit}
-use Rattle.access.proofs.PowerBlocks.{all-listed, encoded}
+use Rattle.params.proofs.Sets.{listing-zeros}
+use Rattle.access.proofs.PowerBlocks.{all-listed, powers-most, most, area-is, encoded}
 use Rattle.access.proofs.encoding.encode_within.Statement.{statement}
 use Rattle.access.proofs.encoding.encode_within.Tie as tie
 
 working-requires : tie.Need-working-requires
 working-requires c κs = search needs
 
--- a node's block has at most 32 parts
-most : (c : tie.After-working) → c .working .result ≤ 32
-most c =
+-- there is room for the powers
+area : (c : tie.After-working) → c .before .before .before .before .args .a .n * c .working .result ≤ length (now (c .before .before .before .before .args .rows))
+area c =
     let s = c .before .before .before .before in
-    let v = s .pre .0 in
-    omega (arith, c .working .ensures, working-held (s .args .a) v, v .shape .r-le-n, v .shape .n-high)
-
--- and there is room for the rows
-area : (c : tie.After-working) → c .before .before .before .before .args .a .n * c .working .result ≤ 1024
-area c = areas-fit _ _ (c .before .before .before .before .pre .0 .shape .n-high) (most c)
+    omega (arith, area-is (s .args .a) (s .pre .0) (c .working .result) (c .working .ensures), s .pre .1 .1)
 
 mul-area : tie.Need-mul-area
-mul-area c = omega (arith, area c)
+mul-area c =
+    let s = c .before .before .before .before in
+    omega (arith, area-is (s .args .a) (s .pre .0) (c .working .result) (c .working .ensures), powers-most (s .args .a) (s .pre .0))
 
 outside-requires : tie.Need-outside-requires
 outside-requires c κs = search needs
 
+slice-aggregate-list : tie.Need-slice-aggregate-list
+slice-aggregate-list c = search needs
+
 list-requires : tie.Need-list-requires
 list-requires c κs = search needs
-
-in-order-requires : tie.Need-in-order-requires
-in-order-requires c κs = search needs
 
 array-share-prefix-nodes : tie.Need-array-share-prefix-nodes
 array-share-prefix-nodes c = search needs
 
 slice-aggregate-power-rows : tie.Need-slice-aggregate-power-rows
-slice-aggregate-power-rows c = sym (length-take-le _ (c .before .before .list .result) (array-share-prefix-nodes (c .before)))
+slice-aggregate-power-rows c = sym (length-take-le _ (c .before .before .list .last .1 .0) (array-share-prefix-nodes (c .before)))
 
 slice-relend-prefix-power-rows : tie.Need-slice-relend-prefix-power-rows
-slice-relend-prefix-power-rows c = omega (arith, area (c .before .before .before .before), c .before .before .before .before .before .before .before .before .pre .1 .1)
+slice-relend-prefix-power-rows c = area (c .before .before .before .before .before)
 
 slice-aggregate-power-rows-2 : tie.Need-slice-aggregate-power-rows-2
-slice-aggregate-power-rows-2 c = sym (length-take-le _ (now (c .before .before .before .before .before .before .before .before .before .args .rows)) (slice-relend-prefix-power-rows (c .before)))
+slice-aggregate-power-rows-2 c = sym (length-take-le _ (now (c .before .before .before .before .before .before .before .before .before .before .args .rows)) (slice-relend-prefix-power-rows (c .before)))
 
 power-rows-requires : tie.Need-power-rows-requires
 power-rows-requires c κs = search needs
 
+in-order-requires : tie.Need-in-order-requires
+in-order-requires c κs = search needs
+
+in-order-requires-2 : tie.Need-in-order-requires-2
+in-order-requires-2 c κs = search needs
+
+clear-requires : tie.Need-clear-requires
+clear-requires c κs = search needs
+
 array-share-prefix-order : tie.Need-array-share-prefix-order
-array-share-prefix-order c = omega (arith, most (c .before .before .before .before .before .before .before .before .before))
+array-share-prefix-order c = search needs
 
-slice-aggregate-product : tie.Need-slice-aggregate-product
-slice-aggregate-product c = sym (length-take-le _ (c .before .before .before .before .before .before .before .in-order .result) (array-share-prefix-order (c .before)))
+slice-aggregate-add-product : tie.Need-slice-aggregate-add-product
+slice-aggregate-add-product c = sym (length-take-le _ (c .before .before .before .before .before .before .before .in-order .result) (array-share-prefix-order (c .before)))
 
-product-requires : tie.Need-product-requires
-product-requires c κs = search needs
+array-share-prefix-columns : tie.Need-array-share-prefix-columns
+array-share-prefix-columns c =
+    let z = c .before .before .before .before .before .before .before .before .before .before .before .before .before .before .before .before .before in
+    omega (arith, most (z .before .before .before .before .args .a) (z .before .before .before .before .pre .0) (z .working .result) (z .working .ensures))
+
+slice-aggregate-add-product-2 : tie.Need-slice-aggregate-add-product-2
+slice-aggregate-add-product-2 c = sym (length-take-le _ (c .before .before .before .before .before .before .before .in-order2 .result) (array-share-prefix-columns (c .before)))
+
+add-product-requires : tie.Need-add-product-requires
+add-product-requires c κs = search needs
 
 same-length : tie.Need-same-length
 same-length c = search needs
@@ -71,20 +84,24 @@ same-length-2 c = search needs
 returns : tie.Need-returns
 returns c =
     let p = c .before .before in
-    let r = p .before .before .before .before .before .before in
+    let e = p .before .before .before .before .before .before .before in
+    let k = e .before .before in
+    let o = k .before in
+    let r = o .before .before .before in
     let f = r .before .before in
-    let o = f .before in
-    let l = o .before in
-    let u = l .before in
+    let l = f .before .before in
+    let u = l .before .before in
     let z = u .before in
     let s = z .before .before .before .before in
     let full = slice-aggregate-power-rows f in
     let room = sym (slice-aggregate-power-rows-2 (r .before)) ∙ ap (λ (n : ℕ). n * z .working .result) full in
-    encoded (s .args .a) (s .pre .0) (z .working .result) (z .working .ensures) (take (s .args .a .n) (l .list .result)) (r .power-rows .last .1 .1 .1 .0) _ (sym full)
-    (all-listed (s .args .a .n) (u .outside .result .0) (s .pre .0 .shape .n-high) (u .outside .ensures) (l .list .result)
-    (omega (arith, u .outside .ok)) (l .list .ensures))
-    (r .power-rows .ensures .written room) (now (s .args .parts)) (o .in-order .result) (now (s .args .codeword)) _ (s .pre .1 .0 .0) (s .pre .1 .0 .1)
-    (o .in-order .ensures) (p .product .ensures)
+    encoded (s .args .a) (s .pre .0) (z .working .result) (z .working .ensures) (take (s .args .a .n) (l .list .last .1 .0)) (r .power-rows .last .1 .1 .1 .0) _
+    (sym full)
+    (all-listed (s .args .a .n) (u .outside .result .0) (s .pre .0 .shape .n-high) (u .outside .ensures) (l .list .last .1 .0)
+    (omega (arith, u .outside .ok)) (listing-zeros _ _ (l .list .ensures)))
+    (r .power-rows .ensures .written room) (now (s .args .parts)) (o .in-order .result) (k .in-order2 .result) _ _ (s .pre .1 .0 .0)
+    (e .clear .ensures ∙ ap (λ (n : ℕ). replicate n 0) (s .pre .1 .0 .1))
+    (o .in-order .ensures) (k .in-order2 .ensures) (p .add-product .ensures)
 
 pub encode-within-spec : {M : Type 1} → statement M
 encode-within-spec =
@@ -93,16 +110,21 @@ encode-within-spec =
     working-requires
     mul-area
     outside-requires
+    slice-aggregate-list
     list-requires
-    in-order-requires
     array-share-prefix-nodes
     slice-aggregate-power-rows
     slice-relend-prefix-power-rows
     slice-aggregate-power-rows-2
     power-rows-requires
+    in-order-requires
+    in-order-requires-2
+    clear-requires
     array-share-prefix-order
-    slice-aggregate-product
-    product-requires
+    slice-aggregate-add-product
+    array-share-prefix-columns
+    slice-aggregate-add-product-2
+    add-product-requires
     same-length
     same-length-2
     returns)

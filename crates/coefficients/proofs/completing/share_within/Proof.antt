@@ -29,17 +29,26 @@ powers-back c = ap length (c .fill-rows .ensures) ∙ length-powerRows 0 (c .bef
 in-order-requires : tie.Need-in-order-requires
 in-order-requires c κs = search needs
 
-slice-reshare-prefix-add-product : tie.Need-slice-reshare-prefix-add-product
-slice-reshare-prefix-add-product c = buffer-fits _ (c .before .before .before .before .fill-rows .last .1 .1 .1 .1 .1 .0) _ (powers-back (c .before .before .before .before))
-
-slice-aggregate-add-product : tie.Need-slice-aggregate-add-product
-slice-aggregate-add-product c = buffer-count _ (c .before .before .before .before .before .fill-rows .last .1 .1 .1 .1 .1 .0) _ (powers-back (c .before .before .before .before .before))
+in-order-requires-2 : tie.Need-in-order-requires-2
+in-order-requires-2 c κs = search needs
 
 array-share-prefix-order : tie.Need-array-share-prefix-order
 array-share-prefix-order c = search needs
 
+slice-aggregate-add-product : tie.Need-slice-aggregate-add-product
+slice-aggregate-add-product c = sym (first-length (c .before .before .before .in-order .result) (c .before .before .before .in-order .ensures) _ (c .before .before .before .before .before .before .before .before .before .before .before .before .before .before .pre .1 .1 .0 .few))
+
+slice-reshare-prefix-add-product : tie.Need-slice-reshare-prefix-add-product
+slice-reshare-prefix-add-product c = buffer-fits _ (c .before .before .before .before .before .before .fill-rows .last .1 .1 .1 .1 .1 .0) _ (powers-back (c .before .before .before .before .before .before))
+
 slice-aggregate-add-product-2 : tie.Need-slice-aggregate-add-product-2
-slice-aggregate-add-product-2 c = sym (first-length (c .before .before .before .in-order .result) (c .before .before .before .in-order .ensures) _ (c .before .before .before .before .before .before .before .before .before .before .before .before .before .before .pre .1 .1 .0 .most))
+slice-aggregate-add-product-2 c = buffer-count _ (c .before .before .before .before .before .before .before .fill-rows .last .1 .1 .1 .1 .1 .0) _ (powers-back (c .before .before .before .before .before .before .before))
+
+array-share-prefix-columns : tie.Need-array-share-prefix-columns
+array-share-prefix-columns c = search needs
+
+slice-aggregate-add-product-3 : tie.Need-slice-aggregate-add-product-3
+slice-aggregate-add-product-3 c = sym (first-length (c .before .before .before .before .in-order2 .result) (c .before .before .before .before .in-order2 .ensures) _ (c .before .before .before .before .before .before .before .before .before .before .before .before .before .before .before .before .pre .1 .1 .0 .most))
 
 add-product-requires : tie.Need-add-product-requires
 add-product-requires c κs = search needs
@@ -52,10 +61,10 @@ same-length-2 c = search needs
 
 returns : tie.Need-returns
 returns c =
-    let s = c .before .before .before .before .before .before .before .before .before .before .before .before .before .before .before .before .before in
-    let powers = c .before .before .before .before .before .before .before .before .before .fill-rows in
-    shared (s .args .rows) (s .args .e) (now (s .args .at)) (now (s .args .gains)) (powers .last .1 .1 .1 .1 .1 .0) _ (c .before .before .before .before .before .before .in-order .result) _ _ (s .pre .1 .1 .0)
-    (powers .ensures) (c .before .before .before .before .before .before .in-order .ensures) (c .before .before .add-product .ensures)
+    let s = c .before .before .before .before .before .before .before .before .before .before .before .before .before .before .before .before .before .before .before in
+    let powers = c .before .before .before .before .before .before .before .before .before .before .before .fill-rows in
+    shared (s .args .rows) (s .args .e) (now (s .args .at)) (now (s .args .gains)) (powers .last .1 .1 .1 .1 .1 .0) _ (c .before .before .before .before .before .before .before .before .in-order .result) (c .before .before .before .before .before .before .before .in-order2 .result) _ _
+    (s .pre .1 .1 .0) (powers .ensures) (c .before .before .before .before .before .before .before .before .in-order .ensures) (c .before .before .before .before .before .before .before .in-order2 .ensures) (c .before .before .add-product .ensures)
 
 pub share-within-spec : {M : Type 1} → statement M
 share-within-spec =
@@ -66,10 +75,13 @@ share-within-spec =
     slice-aggregate-fill-rows
     fill-rows-requires
     in-order-requires
-    slice-reshare-prefix-add-product
-    slice-aggregate-add-product
+    in-order-requires-2
     array-share-prefix-order
+    slice-aggregate-add-product
+    slice-reshare-prefix-add-product
     slice-aggregate-add-product-2
+    array-share-prefix-columns
+    slice-aggregate-add-product-3
     add-product-requires
     same-length
     same-length-2

@@ -59,11 +59,11 @@ module _ (c : tie.After-wide Inv-loop μ-loop) where
       subst⁻¹ (λ (k : ℕ). k * s .args .b + s .args .at + s .args .w ≤ length (now (s .args .src))) (c .wide .ensures)
       (stretch-ends (s .args .b) (s .args .at) (s .args .w) (c .before .before .before .loop .t - 1) _ (now (s .args .places)) (s .pre .1 .0 .0) (omega arith) (s .pre .0))
 
-  halves : c .before .before .before .loop .half ≤ 8
+  halves : c .before .before .before .loop .half ≤ 16
   halves =
       let l = c .before .before .before .loop in
       let s = c .before .before .before .before .before .before .before .before .before .before .before in
-      let few : length (now (s .args .places)) - l .t ≤ 3 = omega arith in
+      let few : length (now (s .args .places)) - l .t ≤ 4 = omega arith in
       omega (arith, l .inv .1, pow-mono few)
 
 mul-start : tie.Need-mul-start Inv-loop μ-loop

@@ -1,15 +1,13 @@
 -- After g turns the first g groups have their tables. Assumes nothing.
-use mathlib.Core.Path.{_≡_, subst}
-use mathlib.Core.Logic.{⊎-elim}
+use mathlib.Core.Path.{_≡_, _∙_, subst, subst⁻¹}
 use Prim.Native.Nat.{ℕ, _+_, _-_, _*_, _≤_, _<_}
 use denote.Ref.{now}
 use native.Mathlib.Omega.{arith}
 use borrow.Author.Needs.{needs}
 use lib.ListN.{length}
-use Rattle.base.proofs.Cases.{lt-or}
-use Rattle.base.proofs.Parts.{length-partOf}
 use Rattle.kernels.specs.Tiling.{columns, Tabled}
 use Rattle.kernels.proofs.Choices.{group-inside, tabled-none, tabled-more}
+use Rattle.kernels.proofs.Digits.{columns-most}
 use Rattle.kernels.proofs.Stretches.{length-stretch}
 use Rattle.kernels.proofs.tables.fill_groups.Statement.{statement}
 use Rattle.kernels.proofs.tables.fill_groups.Tie as tie
@@ -26,22 +24,23 @@ loop-holds c = (omega arith, tabled-none _ _ _ _ _ _)
 mul-j : tie.Need-mul-j Inv-loop μ-loop
 mul-j c = search needs
 
-sub-shorter : tie.Need-sub-shorter Inv-loop μ-loop
-sub-shorter c = search needs
+sub-group-size : tie.Need-sub-group-size Inv-loop μ-loop
+sub-group-size c = search needs
 
-shorter-requires : tie.Need-shorter-requires Inv-loop μ-loop
-shorter-requires c κs = search needs
+group-size-requires : tie.Need-group-size-requires Inv-loop μ-loop
+group-size-requires c κs = search needs
 
 -- the group's places end within places, and its table within the table
-module _ (c : tie.After-shorter Inv-loop μ-loop) where
-  places-end : c .before .before .loop .g * 4 + c .shorter .result ≤ length (now (c .before .before .before .before .before .before .args .places))
+module _ (c : tie.After-group-size Inv-loop μ-loop) where
+  places-end : c .before .before .loop .g * 4 + c .group-size .result ≤ length (now (c .before .before .before .before .before .before .args .places))
   places-end = omega arith
 
-  room : c .before .before .loop .g * 1024 + 1024 ≤ length (c .before .before .loop .table)
+  room : c .before .before .loop .g * 1024 + 2048 ≤ length (c .before .before .loop .table)
   room = omega (arith, c .before .before .loop .inv .1 .same)
 
-  count : c .shorter .result ≡ columns (length (now (c .before .before .before .before .before .before .args .places))) (c .before .before .loop .g)
-  count = ⊎-elim (λ (lt : c .shorter .result < 4). omega (arith, c .shorter .ensures .1 .1 lt)) (λ (le : 4 ≤ c .shorter .result). omega arith) (lt-or (c .shorter .result) 4)
+  count : c .group-size .result ≡ columns (length (now (c .before .before .before .before .before .before .args .places))) (c .before .before .loop .g)
+  unfolding columns
+  count = c .group-size .ensures
 
 add-end : tie.Need-add-end Inv-loop μ-loop
 add-end c = search needs
@@ -74,25 +73,28 @@ fill-group-requires : tie.Need-fill-group-requires Inv-loop μ-loop
 fill-group-requires c κs =
     let s = c .before .before .before .before .before .before .before .before in
     let l = c .before .before .before .before .loop in
-    let r = c .before .before .shorter .result in (
+    let r = c .before .before .group-size .result in (
       group-inside (s .args .b) (l .g * 4) r _ (now (s .args .places)) (places-end (c .before .before)) (s .pre .0),
       (
         s .pre .1 .0,
-        (omega (arith, length-stretch (l .g * 4) r (now (s .args .places)) (places-end (c .before .before))), length-partOf 1024 (l .g) (l .table) (room (c .before .before))),
+        (subst⁻¹ (λ (k : ℕ). k ≤ 5) (length-stretch (l .g * 4) r (now (s .args .places)) (places-end (c .before .before)) ∙ count (c .before .before)) (columns-most _ _), length-stretch (l .g * 1024) 2048 (l .table) (room (c .before .before))),
       ),
     )
 
 add-g : tie.Need-add-g Inv-loop μ-loop
 add-g c = search needs
 
+fewer : (g groups : ℕ) → g < groups → groups - (g + 1) < groups - g
+fewer g groups h = omega arith
+
 loop-less : tie.Need-loop-less Inv-loop μ-loop
-loop-less c = search needs
+loop-less c = fewer (c .before .before .before .before .before .before .before .loop .g) _ (omega arith)
 
 loop-again : tie.Need-loop-again Inv-loop μ-loop
 loop-again c =
     let a = c .before .before .before .before .before in
     let l = c .before .before .before .before .before .before .before .loop in
-    (omega arith, tabled-more _ _ _ _ _ _ (l .g) (a .shorter .result) (l .table) _ (room a) (omega arith) (places-end a) (count a) (c .before .before .fill-group .ensures) (l .inv .1))
+    (omega arith, tabled-more _ _ _ _ _ _ (l .g) (a .group-size .result) (l .table) _ (room a) (omega arith) (omega arith) (places-end a) (count a) (c .before .before .fill-group .ensures) (l .inv .1))
 
 same-length : tie.Need-same-length Inv-loop μ-loop
 same-length c = c .before .loop .inv .1 .same
@@ -111,8 +113,8 @@ fill-groups-spec =
     μ-loop
     loop-holds
     mul-j
-    sub-shorter
-    shorter-requires
+    sub-group-size
+    group-size-requires
     add-end
     mul-first
     add-last

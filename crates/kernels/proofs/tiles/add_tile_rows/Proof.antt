@@ -1,30 +1,38 @@
--- After i turns the first i rows have their span, the others are as they were. Assumes nothing.
-use mathlib.Core.Path.{_∙_, subst}
+-- After i turns the first i rows have their span added to their targets. Assumes nothing.
+use mathlib.Core.Path.{ap, _∙_, subst, subst⁻¹}
 use Prim.Native.Nat.{ℕ, _+_, _-_, _*_, _≤_}
 use denote.Ref.{now}
 use native.Mathlib.Omega.{arith}
 use borrow.Author.Needs.{needs}
 use lib.ListN.{length}
 use Rattle.kernels.specs.Tiling.{byBits, Spanned}
-use Rattle.kernels.proofs.Spans.{spanned-none, span-ends, spanned-more}
+use Rattle.kernels.proofs.Choices.{stretch-ends}
+use Rattle.kernels.proofs.Spans.{spanned-none, row-spanned}
 use Rattle.kernels.proofs.tiles.add_tile_rows.Statement.{statement}
 use Rattle.kernels.proofs.tiles.add_tile_rows.Tie as tie
 
 abbrev Inv-loop : tie.InvT-loop
-Inv-loop out₀ rows b at w table groups picks i₀ out i = (i ≤ rows) × Spanned b at w (λ k. byBits groups table picks k 8) i out₀ out
+Inv-loop out₀ targets b at w table groups picks i₀ out i = (i ≤ length targets) × Spanned b at w targets (λ k. byBits groups table picks k 8) i out₀ out
 
 abbrev μ-loop : tie.MeasureT-loop
-μ-loop out₀ rows b at w table groups picks i₀ out i = rows - i
+μ-loop out₀ targets b at w table groups picks i₀ out i = length targets - i
 
 loop-holds : tie.Need-loop-holds Inv-loop μ-loop
-loop-holds c = (omega arith, spanned-none _ _ _ _ _)
+loop-holds c = (omega arith, spanned-none _ _ _ _ _ _)
+
+shared-slice-read-wide : tie.Need-shared-slice-read-wide Inv-loop μ-loop
+shared-slice-read-wide c = search needs
+
+wide-requires : tie.Need-wide-requires Inv-loop μ-loop
+wide-requires c κs = search needs
 
 -- the span ends within out
-inside : (c : tie.In-loop Inv-loop μ-loop)
-    → c .before .loop .i * c .before .before .before .before .before .args .b + c .before .before .before .before .before .args .at + c .before .before .before .before .before .args .w ≤ length (c .before .loop .out)
+inside : (c : tie.After-wide Inv-loop μ-loop) → c .wide .result * c .before .before .before .before .before .before .before .before .args .b + c .before .before .before .before .before .before .before .before .args .at + c .before .before .before .before .before .before .before .before .args .w ≤ length (c .before .before .before .loop .out)
 inside c =
-    let s = c .before .before .before .before .before in
-    span-ends (s .args .b) (s .args .at) (s .args .w) (s .args .rows) (c .before .loop .i) _ (omega arith) (omega arith) (c .before .loop .inv .1 .same ∙ s .pre .0 .0)
+    let s = c .before .before .before .before .before .before .before .before in
+    let l = c .before .before .before .loop in
+    subst⁻¹ (λ (k : ℕ). k * s .args .b + s .args .at + s .args .w ≤ length (l .out)) (c .wide .ensures)
+    (omega (arith, stretch-ends (s .args .b) (s .args .at) (s .args .w) (l .i) (length (now (s .args .out))) (now (s .args .targets)) (s .pre .1 .0 .0) (omega arith) (s .pre .0), l .inv .1 .same))
 
 mul-start : tie.Need-mul-start Inv-loop μ-loop
 mul-start c = omega (arith, inside c)
@@ -45,7 +53,7 @@ part-add-row-end : tie.Need-part-add-row-end Inv-loop μ-loop
 part-add-row-end c = inside c
 
 add-row-requires : tie.Need-add-row-requires Inv-loop μ-loop
-add-row-requires c κs = (omega arith, λ t ht. c .before .before .before .before .before .before .pre .1 (c .before .before .loop .i) t (omega arith) ht)
+add-row-requires c κs = (omega arith, λ t ht. c .before .before .before .before .before .before .before .before .before .pre .1 .1 (c .before .before .before .before .loop .i) t (omega arith) ht)
 
 add-i : tie.Need-add-i Inv-loop μ-loop
 add-i c = search needs
@@ -55,9 +63,10 @@ loop-less c = search needs
 
 loop-again : tie.Need-loop-again Inv-loop μ-loop
 loop-again c =
-    let s = c .before .before .before .before .before .before .before .before .before in
-    let l = c .before .before .before .before .before .loop in
-    (omega arith, spanned-more _ _ _ (s .args .rows) _ _ (s .pre .0 .0) (s .pre .0 .1) (s .pre .0 .2) (l .i) (l .out) _ (omega arith) (c .before .before .add-row .ensures) (l .inv .1))
+    let s = c .before .before .before .before .before .before .before .before .before .before .before .before in
+    let a = c .before .before .before .before in
+    let l = c .before .before .before .before .before .before .before .loop in
+    (omega arith, row-spanned _ _ _ _ _ _ (s .pre .1 .0 .0) (s .pre .1 .0 .1) (l .i) (a .wide .result) (l .out) _ (a .wide .ensures) (inside a) (c .before .before .add-row .ensures) (l .inv .1))
 
 same-length : tie.Need-same-length Inv-loop μ-loop
 same-length c = c .before .loop .inv .1 .same
@@ -65,8 +74,8 @@ same-length c = c .before .loop .inv .1 .same
 returns : tie.Need-returns Inv-loop μ-loop
 returns c =
     let l = c .before .loop in
-    let s = c .before .before .before .before .before .args in
-    subst (λ (t : ℕ). Spanned (s .b) (s .at) (s .w) (λ k. byBits (s .groups) (now (s .table)) (now (s .picks)) k 8) t (now (s .out)) (l .out)) (omega arith) (l .inv .1)
+    let s = c .before .before .before .before .before .before .args in
+    subst (λ (t : ℕ). Spanned (s .b) (s .at) (s .w) (now (s .targets)) (λ k. byBits (s .groups) (now (s .table)) (now (s .picks)) k 8) t (now (s .out)) (l .out)) (omega arith) (l .inv .1)
 
 pub add-tile-rows-spec : {M : Type 1} → statement M
 add-tile-rows-spec =
@@ -75,6 +84,8 @@ add-tile-rows-spec =
     Inv-loop
     μ-loop
     loop-holds
+    shared-slice-read-wide
+    wide-requires
     mul-start
     add-start
     add-end

@@ -1,12 +1,13 @@
 -- R's blocks are the values of polynomials without leading parts. Assumes nothing.
-use mathlib.Core.Path.{sym, ap, _∙_}
+use mathlib.Core.Path.{_≡_, sym, ap, _∙_}
 use Prim.Native.Nat.{_^_, _<_}
 use native.Mathlib.Omega.{arith}
+use borrow.Author.Needs.{needs}
 use denote.Ref.{now}
 use lib.ListN.{length}
-use Rattle.coefficients.proofs.Laws.{size-most, length-places, placed-length}
+use Rattle.coefficients.specs.Coefficients.{placesOf}
+use Rattle.coefficients.proofs.Laws.{size-most, length-places, placing-zeros, placed-length}
 use Rattle.maintenance.proofs.PairBlocks.{recompute-asks, recomputed}
-use borrow.Author.Needs.{needs}
 use Rattle.maintenance.proofs.recomputing.recompute.Statement.{statement}
 use Rattle.maintenance.proofs.recomputing.recompute.Tie as tie
 
@@ -16,36 +17,44 @@ word-from c = omega arith
 size-requires : tie.Need-size-requires
 size-requires c κs = search needs
 
+slice-aggregate-places-of : tie.Need-slice-aggregate-places-of
+slice-aggregate-places-of c = search needs
+
 places-of-requires : tie.Need-places-of-requires
 places-of-requires c κs = search needs
+
+-- the places, once they are back
+placed : (c : tie.After-places2) → c .before .places-of .last .1 .0 ≡ placesOf (c .before .before .before .before .before .before .args .from .0)
+placed c = placing-zeros _ _ (word-from (c .before .before .before .before .before .before)) (c .before .places-of .ensures)
 
 slice-aggregate-extend : tie.Need-slice-aggregate-extend
 slice-aggregate-extend c = search needs
 
 array-share-prefix-places : tie.Need-array-share-prefix-places
-array-share-prefix-places c = omega (arith, size-most _ (word-from (c .before .before .before .before .before)), c .before .before .size .ensures, ap length (c .before .places-of .ensures) ∙ length-places _)
+array-share-prefix-places c = omega (arith, size-most _ (word-from (c .before .before .before .before .before .before .before)), c .before .before .before .before .size .ensures, ap length (placed (c .before)) ∙ length-places _)
 
 slice-aggregate-extend-2 : tie.Need-slice-aggregate-extend-2
-slice-aggregate-extend-2 c = sym (placed-length _ (word-from (c .before .before .before .before .before .before)) _ (c .before .before .places-of .ensures) _ (c .before .before .before .size .ensures))
+slice-aggregate-extend-2 c = sym (placed-length _ (word-from (c .before .before .before .before .before .before .before .before)) _ (placed (c .before .before)) _ (c .before .before .before .before .before .size .ensures))
 
 extend-requires : tie.Need-extend-requires
 extend-requires c κs =
-    let s = c .before .before .before .before .before .before .before in
-    recompute-asks _ _ _ (word-from s) (c .before .before .before .before .size .ensures) (c .before .before .before .places-of .ensures) (s .args .a) _ (now (s .args .codeword)) (length (now (s .args .fresh))) (s .pre)
+    let s = c .before .before .before .before .before .before .before .before .before in
+    recompute-asks _ _ _ (word-from s) (c .before .before .before .before .before .before .size .ensures) (placed (c .before .before .before)) (s .args .a) _ (now (s .args .codeword)) (length (now (s .args .fresh))) (s .pre)
 
 same-length : tie.Need-same-length
 same-length c = search needs
 
 returns : tie.Need-returns
 returns c =
-    let s = c .before .before .before .before .before .before .before .before .before .before in
-    recomputed _ _ _ (word-from s) (c .before .before .before .before .before .before .before .size .ensures) (c .before .before .before .before .before .before .places-of .ensures) (s .args .a) _ (now (s .args .codeword)) (length (now (s .args .fresh))) (s .pre) _ _ (omega arith) (c .before .before .extend .ensures)
+    let s = c .before .before .before .before .before .before .before .before .before .before .before .before in
+    recomputed _ _ _ (word-from s) (c .before .before .before .before .before .before .before .before .before .size .ensures) (placed (c .before .before .before .before .before .before)) (s .args .a) _ (now (s .args .codeword)) (length (now (s .args .fresh))) (s .pre) _ _ (omega arith) (c .before .before .extend .ensures)
 
 pub recompute-spec : {M : Type 1} → statement M
 recompute-spec =
     tie.close
     (tie.spec
     size-requires
+    slice-aggregate-places-of
     places-of-requires
     slice-aggregate-extend
     array-share-prefix-places

@@ -1,4 +1,4 @@
--- After j turns the first j entries are zeros. Assumes nothing.
+-- After p turns the first p bytes are 0, the others as they were. Assumes nothing.
 use mathlib.Core.Path.{refl, _∙_}
 use Prim.Native.Nat.{_-_, _≤_}
 use native.Mathlib.Omega.{arith}
@@ -7,23 +7,23 @@ use lib.ListN.{length}
 use Rattle.base.specs.Parts.{Filled}
 use Rattle.base.proofs.Filled.{filled-none, filled-more, filled-all}
 use Rattle.base.proofs.Seq.{tabulate-zeros}
-use Rattle.coefficients.proofs.raising.clear.Statement.{statement}
-use Rattle.coefficients.proofs.raising.clear.Tie as tie
+use Rattle.blocks.proofs.clear.Statement.{statement}
+use Rattle.blocks.proofs.clear.Tie as tie
 
 abbrev Inv-loop : tie.InvT-loop
-Inv-loop out₀ count j₀ out j = (j ≤ length out₀) × Filled (λ i. 0) j out₀ out
+Inv-loop dst₀ end p₀ dst p = (p ≤ length dst₀) × Filled (λ q. 0) p dst₀ dst
 
 abbrev μ-loop : tie.MeasureT-loop
-μ-loop out₀ count j₀ out j = length out₀ - j
+μ-loop dst₀ end p₀ dst p = length dst₀ - p
 
 loop-holds : tie.Need-loop-holds Inv-loop μ-loop
 loop-holds c = (omega arith, filled-none _ _)
 
-slice-write-out : tie.Need-slice-write-out Inv-loop μ-loop
-slice-write-out c = omega (arith, c .before .loop .inv .1 .same)
+slice-write-dst : tie.Need-slice-write-dst Inv-loop μ-loop
+slice-write-dst c = omega (arith, c .before .loop .inv .1 .same)
 
-add-j : tie.Need-add-j Inv-loop μ-loop
-add-j c = search needs
+add-p : tie.Need-add-p Inv-loop μ-loop
+add-p c = search needs
 
 loop-less : tie.Need-loop-less Inv-loop μ-loop
 loop-less c = search needs
@@ -31,7 +31,7 @@ loop-less c = search needs
 loop-again : tie.Need-loop-again Inv-loop μ-loop
 loop-again c =
     let l = c .before .loop in
-    (omega arith, filled-more _ (l .j) _ (l .out) _ (omega (arith, l .inv .1 .same)) refl (l .inv .1))
+    (omega arith, filled-more _ (l .p) _ (l .dst) _ (omega (arith, l .inv .1 .same)) refl (l .inv .1))
 
 same-length : tie.Need-same-length Inv-loop μ-loop
 same-length c = c .before .loop .inv .1 .same
@@ -46,8 +46,8 @@ clear-spec =
     Inv-loop
     μ-loop
     loop-holds
-    slice-write-out
-    add-j
+    slice-write-dst
+    add-p
     loop-less
     loop-again
     same-length

@@ -1,0 +1,124 @@
+-- The leading rows take the change to what it makes of W's blocks. Assumes nothing.
+use mathlib.Core.Path.{sym, _∙_}
+use Prim.Native.Nat.{_*_, _^_, _≤_, _<_}
+use native.Mathlib.Nat.{le-refl, mul-le-mul}
+use native.Mathlib.Omega.{arith}
+use borrow.Author.Needs.{needs}
+use denote.Ref.{now}
+use lib.ListN.{length}
+use lib.Seq.{length-take-le}
+use Rattle.gates.proofs.Valid.{slack-le}
+use Rattle.coefficients.proofs.Laws.{areas-fit}
+use Rattle.updates.proofs.Vanishing.{roomy, spread}
+use Rattle.updates.proofs.spread_within.Statement.{statement}
+use Rattle.updates.proofs.spread_within.Tie as tie
+
+slack-parts-requires : tie.Need-slack-parts-requires
+slack-parts-requires c κs = search needs
+
+-- there is room for the rows
+module _ (c : tie.After-slack-parts) where
+  slack-most : c .slack-parts .result ≤ c .before .before .before .before .before .before .args .a .n
+  slack-most = omega (arith, c .slack-parts .ensures, slack-le (c .before .before .before .before .before .before .args .a) (c .before .before .before .before .before .before .pre .0 .valid))
+
+  leading-room : c .before .before .before .before .before .before .args .a .w * c .before .before .before .before .before .before .args .a .k ≤ length (now (c .before .before .before .before .before .before .args .leading))
+  leading-room =
+      let t = c .before .before .before .before .before .before .pre .0 .valid .shape in
+      let k : c .before .before .before .before .before .before .args .a .k ≤ c .before .before .before .before .before .before .args .a .n = omega (arith, t .k-le-w, t .w-le-n) in
+      omega (arith, mul-le-mul (le-refl (c .before .before .before .before .before .before .args .a .w)) k, c .before .before .before .before .before .before .pre .1 .0)
+
+  gains-room : c .before .before .before .before .before .before .args .a .w * c .slack-parts .result ≤ length (now (c .before .before .before .before .before .before .args .gains))
+  gains-room = omega (arith, mul-le-mul (le-refl (c .before .before .before .before .before .before .args .a .w)) slack-most, c .before .before .before .before .before .before .pre .1 .1)
+
+mul-leading-area : tie.Need-mul-leading-area
+mul-leading-area c =
+    let s = c .before .before .before .before .before .before in
+    let t = s .pre .0 .valid .shape in
+    omega (arith, areas-fit (s .args .a .w) (s .args .a .k) (omega (arith, t .w-le-n, t .n-high)) (omega (arith, t .k-le-w, t .w-le-n, t .n-high)))
+
+mul-gains-area : tie.Need-mul-gains-area
+mul-gains-area c =
+    let s = c .before .before .before .before .before .before in
+    let t = s .pre .0 .valid .shape in
+    omega (arith, areas-fit (s .args .a .w) (c .slack-parts .result) (omega (arith, t .w-le-n, t .n-high)) (omega (arith, slack-most c, t .n-high)))
+
+outside-requires : tie.Need-outside-requires
+outside-requires c κs = search needs
+
+outside-word : (c : tie.After-outside) → c .outside .result .0 < 2 ^ 32
+outside-word c = omega (arith, c .outside .ok)
+
+slice-relend-prefix-completion-rows : tie.Need-slice-relend-prefix-completion-rows
+slice-relend-prefix-completion-rows c = leading-room (c .before)
+
+slice-aggregate-completion-rows : tie.Need-slice-aggregate-completion-rows
+slice-aggregate-completion-rows c = sym (length-take-le _ (now (c .before .before .before .before .before .before .before .before .args .leading)) (slice-relend-prefix-completion-rows (c .before)))
+
+slice-relend-prefix-completion-rows-2 : tie.Need-slice-relend-prefix-completion-rows-2
+slice-relend-prefix-completion-rows-2 c = gains-room (c .before .before)
+
+slice-aggregate-completion-rows-2 : tie.Need-slice-aggregate-completion-rows-2
+slice-aggregate-completion-rows-2 c = sym (length-take-le _ (now (c .before .before .before .before .before .before .before .before .before .args .gains)) (slice-relend-prefix-completion-rows-2 (c .before)))
+
+completion-rows-requires : tie.Need-completion-rows-requires
+completion-rows-requires c κs = search needs
+
+in-order-requires : tie.Need-in-order-requires
+in-order-requires c κs = search needs
+
+array-share-prefix-order : tie.Need-array-share-prefix-order
+array-share-prefix-order c = search needs
+
+slice-aggregate-add-product : tie.Need-slice-aggregate-add-product
+slice-aggregate-add-product c = sym (length-take-le _ (c .before .before .in-order .result) (array-share-prefix-order (c .before)))
+
+add-product-requires : tie.Need-add-product-requires
+add-product-requires c κs = search needs
+
+same-length : tie.Need-same-length
+same-length c = search needs
+
+same-length-2 : tie.Need-same-length-2
+same-length-2 c = search needs
+
+same-length-3 : tie.Need-same-length-3
+same-length-3 c = search needs
+
+returns : tie.Need-returns
+returns c =
+    let p = c .before .before in
+    let o = p .before .before .before .before in
+    let e = o .before .before .before .before .before in
+    let g = e .before in
+    let u = g .before .before in
+    let z = u .before in
+    let s = z .before .before .before .before .before .before in
+    let full = sym (slice-aggregate-completion-rows (g .before)) in
+    let room = roomy (s .args .a) (now (s .args .change)) (now (s .args .targets)) (now (s .args .out)) (s .args .to .0) (u .outside .result .0) (outside-word u) (s .pre .0)
+    (u .outside .ensures) _ _ _ (z .slack-parts .ensures) full (sym (slice-aggregate-completion-rows-2 g)) in
+    spread (s .args .a) (now (s .args .change)) (now (s .args .targets)) (now (s .args .out)) (s .args .to .0) (u .outside .result .0) (outside-word u) (s .pre .0)
+    (u .outside .ensures) (e .completion-rows .last .1 .1 .1 .0) (e .completion-rows .last .1 .1 .1 .1 .0) _ (o .in-order .result) _
+    (e .completion-rows .ensures .same-leading ∙ full) (e .completion-rows .ensures .written room)
+    (λ i. omega (arith, z .before .before .before .before .before .shared-slice-known .given i)) (o .in-order .ensures) (p .add-product .ensures)
+
+pub spread-within-spec : {M : Type 1} → statement M
+spread-within-spec =
+    tie.close
+    (tie.spec
+    slack-parts-requires
+    mul-leading-area
+    mul-gains-area
+    outside-requires
+    slice-relend-prefix-completion-rows
+    slice-aggregate-completion-rows
+    slice-relend-prefix-completion-rows-2
+    slice-aggregate-completion-rows-2
+    completion-rows-requires
+    in-order-requires
+    array-share-prefix-order
+    slice-aggregate-add-product
+    add-product-requires
+    same-length
+    same-length-2
+    same-length-3
+    returns)

@@ -1,0 +1,32 @@
+-- What the rows of a change ask, and what they do to the blocks that they go to. No statement about a call rests on these names. Assumes nothing.
+use mathlib.Core.Path.{_≡_}
+use mathlib.Core.Bool.{true}
+use mathlib.Core.List.{List}
+use Prim.Native.Nat.{ℕ, suc, _*_, _≤_, _<_}
+use lib.ListN.{length, getD}
+use Rattle.base.specs.Seq.{cell}
+use Rattle.field.specs.Field.{add}
+use Rattle.params.specs.Nodes.{size, within}
+use Rattle.params.specs.declared.Params.{Params}
+use Rattle.gates.specs.Valid.{Valid}
+use Rattle.code.specs.Code.{block}
+use Rattle.code.specs.Calls.{Vanishes}
+use Rattle.kernels.specs.Blocks.{arriving}
+use Rattle.coefficients.specs.Coefficients.{listed}
+
+-- an accepted change, and a block for each node of W
+pub record Spreadable (a : Params) (change to : ℕ) (targets : List ℕ) (out : ℕ) : Type 0 where
+  pub valid : Valid a
+  pub change-length : change ≡ a .k * a .b
+  pub to-within : within (a .n) to ≡ true
+  pub to-size : size to ≡ a .w
+  pub count : length targets ≡ a .w
+  pub target : (i : ℕ) → i < length targets → suc (getD targets i 0) * a .b ≤ out
+
+-- what the change makes of the block of W's node t, in rising order, is added to the block that targets names at place t
+pub record Spread (a : Params) (d : List ℕ) (to : ℕ) (targets old new : List ℕ) : Type 0 where
+  pub slack : List ℕ
+  pub vanishes : Vanishes a d to slack
+  pub same : length new ≡ length old
+  pub added : (j p : ℕ) → p < a .b
+      → cell (a .b) new j p ≡ add (cell (a .b) old j p) (arriving (length targets) targets (λ t. block a d slack (getD (listed to) t 0) p) j)
