@@ -59,7 +59,7 @@ abbrev pub Lists : ℕ → List ℕ → Type 0
 Lists s l = l ≡ listed s ++ replicate (32 - size s) 0
 
 module _ (s : ℕ) (h : s < 2 ^ 32) (l : List ℕ) (e : Lists s l) where
-  pub list-length : length l ≡ 32
+  list-length : length l ≡ 32
   list-length =
       ap length e ∙ length-append (listed s) (replicate (32 - size s) 0)
       ∙ omega (arith, length-listed s h, length-replicate {A = ℕ} (32 - size s) 0, size-most s h)
@@ -92,7 +92,7 @@ module _ (s : ℕ) (h : s < 2 ^ 32) (l : List ℕ) (e : Lists s l) where
 pub length-in-order : length inOrder ≡ 32
 length-in-order = length-tabulate 32 (λ j. j)
 
-pub in-order-at : (j : ℕ) → j < 32 → getD inOrder j 0 ≡ j
+in-order-at : (j : ℕ) → j < 32 → getD inOrder j 0 ≡ j
 in-order-at j h = getD-tabulate 32 (λ j. j) j h
 
 pub length-places : (s : ℕ) → length (placesOf s) ≡ 32

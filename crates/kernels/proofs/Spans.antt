@@ -22,7 +22,7 @@ use Rattle.field.proofs.FiniteSum.{sum-zero, sum-zeros, sum-last, sum-ext, sum-
 use Rattle.field.proofs.Multiplication.{mul-zero-left}
 use Rattle.blocks.specs.Bytes.{plus}
 use Rattle.blocks.proofs.Laws.{plus-length, plus-at}
-use Rattle.kernels.specs.Blocks.{product, arriving, Inside, Fits, Added}
+use Rattle.kernels.specs.Blocks.{product, arriving, Fits, Added}
 use Rattle.kernels.specs.Tiling.{bit, number, groupsOf, columns, multiple, tileAt, Tabled, Picked, named, byBits, Gathered, Reached, Spanned}
 use Rattle.kernels.proofs.Digits.{bit-lt, number-below, number-bits, digit-times, columns-most, grouped}
 use Rattle.kernels.proofs.Lanes.{picked-all}

@@ -1,8 +1,7 @@
 -- Blocks added up one after the other: what the sum holds after j of them. Assumes nothing.
 use mathlib.Core.Path.{_≡_, refl, sym, ap, ap₂, _∙_}
 use mathlib.Core.List.{List}
-use Prim.Native.Nat.{ℕ, _+_, _*_, _≤_, _<_}
-use native.Mathlib.Nat.{suc-mul}
+use Prim.Native.Nat.{ℕ, _+_, _≤_, _<_}
 use native.Mathlib.Numerals.{add-one}
 use native.Mathlib.Omega.{arith}
 use lib.ListN.{length, getD}
@@ -12,7 +11,7 @@ use Rattle.field.specs.Field.{add, mul}
 use Rattle.field.specs.FiniteSum.{sum}
 use Rattle.field.proofs.Addition.{add-assoc, add-zero-right}
 use Rattle.field.proofs.FiniteSum.{sum-zero, sum-last}
-use Rattle.kernels.specs.Blocks.{Inside, plusMultiple, combined, Accumulated}
+use Rattle.kernels.specs.Blocks.{plusMultiple, combined, Accumulated}
 
 plusMultiple-length : (xs : List ℕ) (c : ℕ) (ys : List ℕ) → length (plusMultiple xs c ys) ≡ length xs
 unfolding plusMultiple
@@ -22,10 +21,6 @@ plusMultiple-at : (xs : List ℕ) (c : ℕ) (ys : List ℕ) (p : ℕ) → p < le
     → getD (plusMultiple xs c ys) p 0 ≡ add (getD xs p 0) (mul c (getD ys p 0))
 unfolding plusMultiple
 plusMultiple-at xs c ys p h = getD-tabulate (length xs) _ p h
-
--- a block that src has ends within it
-pub block-end : (b : ℕ) (places : List ℕ) (src j : ℕ) → Inside b places src → j < length places → getD places j 0 * b + b ≤ src
-block-end b places src j f h = omega (arith, f j h, suc-mul (getD places j 0) b)
 
 pub record Summed (src places coeffs : List ℕ) (j : ℕ) (old new : List ℕ) : Type 0 where
   pub most : j ≤ length places

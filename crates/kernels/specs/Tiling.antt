@@ -1,5 +1,5 @@
 -- What the private functions of the tiled product compute; no statement about a call rests on these names. A tile is 64 bytes. Columns go in groups of
--- four, the last of up to five, and the table of a group has the 16 or 32 tiles that are the sums over every choice of its columns. Assumes nothing.
+-- four, the last of up to five, and the table of a group has up to 32 tiles, the sums over every choice of its columns. Assumes nothing.
 use mathlib.Core.Path.{_≡_}
 use mathlib.Core.List.{List}
 use Prim.Native.Nat.{ℕ, zero, suc, _+_, _-_, _*_, _/_, _%_, _^_, _≤_, _<_, min}

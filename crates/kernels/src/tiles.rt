@@ -1,5 +1,5 @@
 // A product in tiles of 64 bytes, by the bits of the coefficients: c·x is the sum of 02^s·x over the bits s that c has. Columns go in groups of four, the last of up
-// to five: the 16 or 32 sums of a group's tiles are found once, and then every row takes, for each bit from the top, one sum of each group, and doubles before the
+// to five: the sums of a group's tiles, up to 32, are found once, and then every row takes, for each bit from the top, one sum of each group, and doubles before the
 // next bit. Nothing branches on a coefficient.
 use crate::picks::fill_picks;
 use crate::picks::groups_of;

@@ -45,7 +45,7 @@ module _ (b e at targets rows : ℕ) (message z places order columns leading gai
       product-fits b (size at) (length z) (length gains) out (take rows order) places some rows-inside (omega (arith, ok .count-is))
       (omega (arith, ap (λ (m : ℕ). m * size at) row-count)) (λ j hj. ok .block j (omega (arith, ok .count-is)))
 
-  pub extended : (zeros mid new : List ℕ) → zeros ≡ replicate out 0 → Bytes message → Extends e at targets leading gains
+  extended : (zeros mid new : List ℕ) → zeros ≡ replicate out 0 → Bytes message → Extends e at targets leading gains
       → Added b e message (take rows order) (take e columns) leading zeros mid → Added b (size at) z (take rows order) places gains mid new
       → Extended b e at targets message z places new
   unfolding product

@@ -10,7 +10,7 @@ use Rattle.base.specs.Seq.{cell}
 use Rattle.base.proofs.Seq.{zeros-at}
 use Rattle.field.specs.Field.{add}
 use Rattle.field.proofs.Addition.{add-zero-left, add-zero-right}
-use Rattle.params.specs.Nodes.{has, size, count}
+use Rattle.params.specs.Nodes.{has, count}
 use Rattle.params.specs.declared.Params.{Params}
 use Rattle.params.proofs.Sets.{rank-lt, node-at-rank, size-count, distinct, within-has}
 use Rattle.gates.specs.Valid.{DeltaAccepted, UpdateAccepted}

@@ -1,7 +1,7 @@
 -- The rows that extend a change, applied to it, give what it makes of W's blocks: at each byte place the change's polynomial is 00 at the nodes outside W, so
 -- that the leading rows alone take it to its values at W's nodes. Assumes nothing.
 use mathlib.Core.Path.{_≡_, sym, ap, ap₂, _∙_}
-use mathlib.Core.Bool.{true, false, not, _&&_}
+use mathlib.Core.Bool.{false, not, _&&_}
 use mathlib.Core.List.{List, _++_}
 use Prim.Native.Nat.{ℕ, suc, _-_, _*_, _^_, _≤_, _<_}
 use native.Mathlib.Nat.{le-refl}

@@ -9,7 +9,6 @@ use gates::update_gate;
 use kernels::add_product;
 use params::NodeSet;
 use params::Params;
-ghost use mathlib.Core.Path.{_≡_};
 ghost use Prim.Native.Nat.{_*_, _≤_};
 ghost use lib.ListN.{length};
 ghost use Rattle.gates.specs.Valid.{DeltaAccepted, UpdateAccepted};
@@ -69,7 +68,7 @@ fn spread(a: Params, change: &[u8], to: NodeSet, targets: &[u8], out: &mut [u8])
     ensures { λ _. ⌜ Spread a (now (change .entry)) (to .0) (now (targets .entry)) (now (out .entry)) (now (out .exit)) ⌝ }
 {
     if a.w * a.n <= 128 {
-        spread_few(a, change, to, targets, out);
+        spread_narrow(a, change, to, targets, out);
         return;
     }
     let mut leading = [0u8; 1024];
@@ -77,7 +76,7 @@ fn spread(a: Params, change: &[u8], to: NodeSet, targets: &[u8], out: &mut [u8])
     spread_within(a, change, to, targets, &mut leading, &mut gains, out);
 }
 
-fn spread_few(a: Params, change: &[u8], to: NodeSet, targets: &[u8], out: &mut [u8])
+fn spread_narrow(a: Params, change: &[u8], to: NodeSet, targets: &[u8], out: &mut [u8])
     requires { ⌜ Spreadable a (length (now change)) (to .0) (now targets) (length (now out)) ⌝ }
     requires { ⌜ a .w * a .n ≤ 128 ⌝ }
     ensures { λ _. ⌜ Spread a (now (change .entry)) (to .0) (now (targets .entry)) (now (out .entry)) (now (out .exit)) ⌝ }

@@ -7,7 +7,8 @@ use borrow.Author.Needs.{needs}
 use lib.ListN.{length, getD}
 use Rattle.base.specs.Parts.{partOf}
 use Rattle.base.proofs.Parts.{partOf-at}
-use Rattle.kernels.proofs.Summing.{Summed, summed-none, summed-more, summed-all, block-end}
+use Rattle.kernels.proofs.Choices.{stretch-ends}
+use Rattle.kernels.proofs.Summing.{Summed, summed-none, summed-more, summed-all}
 use Rattle.kernels.proofs.accumulate.Statement.{statement}
 use Rattle.kernels.proofs.accumulate.Tie as tie
 
@@ -32,7 +33,7 @@ inside : (c : tie.After-wide Inv-loop μ-loop)
 inside c =
     let s = c .before .before .before .before .before .before .before .before in
     subst⁻¹ (λ (k : ℕ). k * length (now (s .args .dst)) + length (now (s .args .dst)) ≤ length (now (s .args .src))) (c .wide .ensures)
-    (block-end (length (now (s .args .dst))) (now (s .args .places)) (length (now (s .args .src))) (c .before .before .before .loop .j) (s .pre .1) (omega arith))
+    (omega (arith, stretch-ends (length (now (s .args .dst))) 0 (length (now (s .args .dst))) (c .before .before .before .loop .j) (length (now (s .args .src))) (now (s .args .places)) (omega arith) (omega arith) (s .pre .1)))
 
 mul-start : tie.Need-mul-start Inv-loop μ-loop
 mul-start c = omega (arith, inside c)

@@ -1,5 +1,5 @@
 -- After i turns the first i rows of the product are added to their targets. Assumes nothing.
-use mathlib.Core.Path.{_∙_, subst⁻¹}
+use mathlib.Core.Path.{subst⁻¹}
 use Prim.Native.Nat.{ℕ, _+_, _-_, _*_, _≤_}
 use denote.Ref.{now}
 use native.Mathlib.Omega.{arith}
@@ -7,10 +7,10 @@ use borrow.Author.Needs.{needs}
 use lib.ListN.{length}
 use Rattle.kernels.specs.Blocks.{product}
 use Rattle.kernels.specs.Tiling.{Spanned}
+use Rattle.kernels.proofs.Choices.{stretch-ends}
 use Rattle.kernels.proofs.RowByRow.{part-inside, row-added, rows-added}
 use Rattle.kernels.proofs.Spans.{spanned-none}
 use Rattle.kernels.proofs.Stretches.{length-stretch}
-use Rattle.kernels.proofs.Summing.{block-end}
 use Rattle.kernels.proofs.add_rows.Statement.{statement}
 use Rattle.kernels.proofs.add_rows.Tie as tie
 
@@ -36,7 +36,7 @@ module _ (c : tie.After-wide Inv-loop μ-loop) where
       let s = c .before .before .before .before .before .before .before .before .before in
       let l = c .before .before .before .loop in
       subst⁻¹ (λ (k : ℕ). k * s .args .b + s .args .b ≤ length (l .out)) (c .wide .ensures)
-      (omega (arith, block-end (s .args .b) (now (s .args .targets)) (length (now (s .args .out))) (l .i) (s .pre .target) (omega arith), l .inv .1 .same))
+      (omega (arith, stretch-ends (s .args .b) 0 (s .args .b) (l .i) (length (now (s .args .out))) (now (s .args .targets)) (omega arith) (omega arith) (s .pre .target), l .inv .1 .same))
 
   row-end : c .before .before .before .loop .i * c .before .before .before .before .before .before .before .before .before .args .stride + length (now (c .before .before .before .before .before .before .before .before .before .args .places)) ≤ length (now (c .before .before .before .before .before .before .before .before .before .args .coeffs))
   row-end = c .before .before .before .before .before .before .before .before .before .pre .row (c .before .before .before .loop .i) (omega arith)

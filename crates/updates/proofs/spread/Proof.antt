@@ -13,8 +13,8 @@ room c = let t = c .pre .valid .shape in areas-fit (c .args .a .w) (c .args .a .
 mul-if1 : tie.Need-mul-if1
 mul-if1 c = omega (arith, room (c .before .before .before .before))
 
-spread-few-requires : tie.Need-spread-few-requires
-spread-few-requires c κs = search needs
+spread-narrow-requires : tie.Need-spread-narrow-requires
+spread-narrow-requires c κs = search needs
 
 same-length : tie.Need-same-length
 same-length c = search needs
@@ -42,7 +42,7 @@ spread-spec =
     tie.close
     (tie.spec
     mul-if1
-    spread-few-requires
+    spread-narrow-requires
     same-length
     returns
     slice-aggregate-spread-within

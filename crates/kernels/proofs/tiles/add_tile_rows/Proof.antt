@@ -1,5 +1,5 @@
 -- After i turns the first i rows have their span added to their targets. Assumes nothing.
-use mathlib.Core.Path.{ap, _∙_, subst, subst⁻¹}
+use mathlib.Core.Path.{subst, subst⁻¹}
 use Prim.Native.Nat.{ℕ, _+_, _-_, _*_, _≤_}
 use denote.Ref.{now}
 use native.Mathlib.Omega.{arith}

@@ -1,4 +1,4 @@
--- After each turn the bytes before `at` of every row have their part of the product, the others are as they were. Assumes nothing.
+-- After each turn the bytes before `at` of every block have the rows added that go to it, the others are as they were. Assumes nothing.
 use mathlib.Core.Path.{_≡_, refl, _∙_, subst⁻¹}
 use mathlib.Core.Logic.{⊎-elim}
 use Prim.Native.Nat.{_-_, _^_, _≤_, _<_}
