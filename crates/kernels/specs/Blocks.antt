@@ -32,7 +32,7 @@ pub record Fits (b stride : ℕ) (targets places : List ℕ) (src coeffs out : �
   pub row : (i : ℕ) → i < length targets → i * stride + length places ≤ coeffs
   pub block : (j : ℕ) → j < length places → suc (getD places j 0) * b ≤ src
 
--- new is old, and each block plus the rows that go to it; where the product does not fit, nothing is written
+-- each block of new is that of old plus the rows that go to it; where the product does not fit, nothing is written
 pub record Added (b stride : ℕ) (src targets places coeffs old new : List ℕ) : Type 0 where
   pub same : length new ≡ length old
   pub written : Fits b stride targets places (length src) (length coeffs) (length old) → (j p : ℕ) → p < b
