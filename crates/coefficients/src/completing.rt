@@ -234,7 +234,8 @@ fn add_share(
         add_row_shares(logs, exps, rows, e, at, gains, leading);
         return;
     }
-    add_large_share(logs, exps, rows, e, at, gains, leading);
+    let mut powers = [0u8; 1024];
+    share_within(logs, exps, rows, e, at, gains, &mut powers, leading);
 }
 
 // The same, row by row: for few powers.
@@ -307,26 +308,7 @@ fn add_powers(logs: &[u8], exps: &[u8], g: u8, x: u8, leading: &mut [u8])
     }
 }
 
-// The same as add_share, through one product: for many powers.
-fn add_large_share(
-    logs: &[u8],
-    exps: &[u8],
-    rows: usize,
-    e: usize,
-    at: &[u8],
-    gains: &[u8],
-    leading: &mut [u8],
-)
-    requires { ⌜ LogTable (now logs) ⌝ }
-    requires { ⌜ PowerTable (now exps) ⌝ }
-    requires { ⌜ Sharable rows e (now at) (now gains) (now leading) ⌝ }
-    ensures { λ _. ⌜ Shared rows e (now (at .entry)) (now (gains .entry)) (now (leading .entry)) (now (leading .exit)) ⌝ }
-{
-    let mut powers = [0u8; 1024];
-    share_within(logs, exps, rows, e, at, gains, &mut powers, leading);
-}
-
-// The same, with room for the powers.
+// The same as add_share, through one product, with room for the powers: for many of them.
 fn share_within(
     logs: &[u8],
     exps: &[u8],

@@ -1,4 +1,4 @@
--- The area of the powers, of at most 32 nodes and exponents, is a number. Assumes nothing.
+-- The powers are of at most 32 nodes and exponents: their area is a number, and there is room for them. Assumes nothing.
 use native.Mathlib.Omega.{arith}
 use borrow.Author.Needs.{needs}
 use Rattle.coefficients.proofs.Laws.{areas-fit}
@@ -17,8 +17,13 @@ same-length c = search needs
 returns : tie.Need-returns
 returns c = search needs
 
-add-large-share-requires : tie.Need-add-large-share-requires
-add-large-share-requires c κs = search needs
+slice-aggregate-share-within : tie.Need-slice-aggregate-share-within
+slice-aggregate-share-within c = search needs
+
+share-within-requires : tie.Need-share-within-requires
+share-within-requires c κs =
+    let s = c .before .before .before .before .before .before .before .before in
+    (s .pre .0, (s .pre .1 .0, (s .pre .1 .1, areas-fit _ _ (s .pre .1 .1 .most) (s .pre .1 .1 .e-most))))
 
 same-length-2 : tie.Need-same-length-2
 same-length-2 c = search needs
@@ -34,6 +39,7 @@ add-share-spec =
     add-row-shares-requires
     same-length
     returns
-    add-large-share-requires
+    slice-aggregate-share-within
+    share-within-requires
     same-length-2
     returns-2)
