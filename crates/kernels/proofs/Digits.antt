@@ -1,18 +1,20 @@
--- Numbers by their binary digits: a product with a factor taken bit by bit from the top, and a sum taken in groups of four, the last of up to five. Assumes nothing.
+-- Numbers by their binary digits: a product with a factor taken bit by bit from the top, and a sum taken in groups of columns. Assumes nothing.
 use mathlib.Core.Path.{_≡_, sym, ap, ap₂, _∙_}
+use mathlib.Core.Logic.{⊎-elim}
 use Prim.Native.Nat.{ℕ, zero, suc, _+_, _-_, _*_, _/_, _%_, _^_, _≤_, _<_, min}
-use native.Mathlib.Nat.{mul-assoc, pow-suc}
+use native.Mathlib.Nat.{mul-assoc, pow-suc, suc-mul, mul-le-mul-right}
 use native.Mathlib.Omega.{arith}
-use lib.Dec.{eqb, eqb→eq}
+use lib.Dec.{eqb, leb, eqb→eq, leb→le}
 use lib.Pow.{pow-mono}
+use Rattle.base.proofs.Cases.{lt-or}
 use Rattle.base.proofs.Test.{below}
 use Rattle.field.specs.Field.{IsByte, add, mul}
 use Rattle.field.specs.FiniteSum.{sum}
-use Rattle.field.proofs.Addition.{add-zero-right, top}
-use Rattle.field.proofs.FiniteSum.{sum-zero, sum-suc, sum-ext, sum-split}
+use Rattle.field.proofs.Addition.{top}
+use Rattle.field.proofs.FiniteSum.{sum-zero, sum-last, sum-split}
 use Rattle.field.proofs.Kernel.{double-small}
 use Rattle.field.proofs.Multiplication.{mul-add-left, mul-assoc as times-assoc}
-use Rattle.kernels.specs.Tiling.{bit, number, taken, columns}
+use Rattle.kernels.specs.Tiling.{bit, number, Grouped, groupsOf, sizeOf, columns}
 
 pub bit-lt : (s c : ℕ) → bit s c < 2
 unfolding bit
@@ -60,57 +62,59 @@ digit-times q r x hq hr =
 
 -- ---- groups of columns
 
-taken-many : (m : ℕ) → 5 < m → taken m ≡ 4
-taken-many m h = omega arith
-
-taken-few : (m : ℕ) → m ≤ 5 → taken m ≡ m
-taken-few m h = omega arith
-
-taken-most : (m : ℕ) → taken m ≤ 5
-taken-most m = omega arith
-
-taken-all : (m : ℕ) → min m (taken m) ≡ taken m
-taken-all m = omega arith
-
-pub columns-most : (n g : ℕ) → columns n g ≤ 5
+pub columns-most : {n groups size : ℕ} → Grouped n groups size → (g : ℕ) → columns size n g ≤ 5
 unfolding columns
-columns-most n g = taken-most (n - g * 4)
+columns-most {n} {groups} {size} r g = omega (arith, r .few)
 
-pub columns-all : (n g : ℕ) → min (n - g * 4) (columns n g) ≡ columns n g
+-- as the code finds how many columns a group has
+pub columns-are : (size n g r : ℕ) → r ≤ size → r ≤ n - g * size → (r < size → n - g * size ≤ r) → r ≡ columns size n g
 unfolding columns
-columns-all n g = taken-all (n - g * 4)
+columns-are size n g r hx hy h = ⊎-elim (λ (lt : r < size). omega (arith, h lt)) (λ (le : size ≤ r). omega arith) (lt-or r size)
 
--- a group that is not the last one has four columns, the last has those that are left
-pub columns-full : (n g : ℕ) → g < (n - 2) / 4 → columns n g ≡ 4
+-- a group begins where the columns before it end
+next-group : (size n g : ℕ) → g * size ≤ n → min n (suc g * size) ≡ g * size + columns size n g
 unfolding columns
-columns-full n g h = taken-many (n - g * 4) (omega arith)
+next-group size n g h = omega (arith, suc-mul g size)
 
-pub columns-last : (n g : ℕ) → (n - 2) / 4 ≤ g → columns n g ≡ n - g * 4
-unfolding columns
-columns-last n g h = taken-few (n - g * 4) (omega arith)
-
--- without the first group the others move up
-moved-up : (n g : ℕ) → columns n (suc g) ≡ columns (n - 4) g
-unfolding columns
-moved-up n g = let e : n - suc g * 4 ≡ n - 4 - g * 4 = omega arith in ap (λ (m : ℕ). taken m) e
-
--- the sums of all groups together
-pub grouped : (last n : ℕ) (e f : ℕ → ℕ) → last ≡ (n - 2) / 4 → ((g : ℕ) → g ≤ last → e g ≡ sum (columns n g) (λ k. f (g * 4 + k)))
-    → sum (suc last) e ≡ sum n f
-grouped zero n e f l h =
-    sum-suc 0 e ∙ ap₂ add (h 0 (omega arith) ∙ sum-ext (columns n 0) _ _ (λ k hk. ap f (omega arith))) (sum-zero _) ∙ add-zero-right _
-    ∙ ap (λ (m : ℕ). sum m f) (columns-last n 0 (omega arith) ∙ omega arith)
-grouped (suc last) n e f l h =
-    sum-suc (suc last) e
-    ∙ ap₂ add
-    (h 0 (omega arith) ∙ sum-ext (columns n 0) _ _ (λ k hk. ap f (omega arith)) ∙ ap (λ (m : ℕ). sum m f) (columns-full n 0 (omega arith)))
-    (grouped last (n - 4) (λ g. e (suc g)) (λ k. f (4 + k)) (omega arith) (λ g hg. rest g hg))
-    ∙ sym (sum-split 4 (n - 4) f) ∙ ap (λ (m : ℕ). sum m f) whole
+-- the sums of the first m groups together
+grouped-first : (size n m : ℕ) (e f : ℕ → ℕ) → ((g : ℕ) → g < m → g * size ≤ n) → ((g : ℕ) → g < m → e g ≡ sum (columns size n g) (λ k. f (g * size + k)))
+    → sum m e ≡ sum (min n (m * size)) f
+grouped-first size n zero e f b h = sum-zero e ∙ sym (sum-zero f) ∙ ap (λ (k : ℕ). sum k f) (omega arith)
+grouped-first size n (suc m) e f b h =
+    sum-last m e
+    ∙ ap₂ add (grouped-first size n m e f (λ g hg. b g (omega arith)) (λ g hg. h g (omega arith)) ∙ ap (λ (k : ℕ). sum k f) here) (h m (omega arith))
+    ∙ sym (sum-split (m * size) (columns size n m) f) ∙ ap (λ (k : ℕ). sum k f) (sym (next-group size n m (b m (omega arith))))
   where
-    whole : 4 + (n - 4) ≡ n
-    whole = omega arith
+    here : min n (m * size) ≡ m * size
+    here = omega (arith, b m (omega arith))
 
-    rest : (g : ℕ) → g ≤ last → e (suc g) ≡ sum (columns (n - 4) g) (λ k. f (4 + (g * 4 + k)))
-    rest g hg =
-        h (suc g) (omega arith) ∙ ap (λ (m : ℕ). sum m (λ k. f (suc g * 4 + k))) (moved-up n g)
-        ∙ sum-ext (columns (n - 4) g) _ _ (λ k hk. ap f (omega arith))
+-- and of all
+pub grouped : {n groups size : ℕ} → Grouped n groups size → (e f : ℕ → ℕ) → ((g : ℕ) → g < groups → e g ≡ sum (columns size n g) (λ k. f (g * size + k)))
+    → sum groups e ≡ sum n f
+grouped {n} {groups} {size} r e f h = grouped-first size n groups e f (r .begins) h ∙ ap (λ (k : ℕ). sum k f) (omega (arith, r .all))
+
+-- at most 32 columns make such groups, at most seven
+module _ (n : ℕ) (n32 : n ≤ 32) where
+  pub few-groups : groupsOf n ≤ 7
+  few-groups = omega arith
+
+  pub grouping : Grouped n (groupsOf n) (sizeOf n)
+  grouping =
+      record {
+        few = few;
+        begins = λ g hg. omega (arith, mul-le-mul-right (sizeOf n) (last g hg), leb→le ((groupsOf n - 1) * sizeOf n) n (below 33 (λ n. leb ((groupsOf n - 1) * sizeOf n) n) tt n (omega arith)));
+        all = leb→le n (groupsOf n * sizeOf n) (below 33 (λ n. leb n (groupsOf n * sizeOf n)) tt n (omega arith));
+      }
+    where
+      few : sizeOf n ≤ 5
+      few = leb→le (sizeOf n) 5 (below 33 (λ n. leb (sizeOf n) 5) tt n (omega arith))
+
+      last : (g : ℕ) → g < groupsOf n → g ≤ groupsOf n - 1
+      last g hg = omega arith
+
+-- or one group, of all
+pub one-group : (n : ℕ) → n ≤ 5 → Grouped n 1 n
+one-group n h = record { few = h; begins = λ g hg. omega (arith, mul-le-mul-right n (first g hg)); all = omega arith }
+  where
+    first : (g : ℕ) → g < 1 → g ≤ 0
+    first g hg = omega arith

@@ -6,5 +6,5 @@ mod Stretches
 mod RowByRow
 mod Digits
 mod Choices
-mod Lanes
+mod Words
 mod Spans

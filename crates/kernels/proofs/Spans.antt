@@ -1,9 +1,9 @@
 -- A tile of every row: the entries that a row's picks name, summed bit by bit, are its tile of the product, and added to its target's block, tile by tile, they make the product.
 -- Assumes nothing.
-use mathlib.Core.Path.{_≡_, refl, sym, ap, ap₂, _∙_, subst⁻¹}
+use mathlib.Core.Path.{_≡_, refl, sym, ap, ap₂, _∙_, subst, subst⁻¹}
 use mathlib.Core.List.{List}
 use mathlib.Core.Logic.{_⊎_, inl, inr, ⊎-elim}
-use Prim.Native.Nat.{ℕ, zero, suc, _+_, _-_, _*_, _/_, _≤_, _<_}
+use Prim.Native.Nat.{ℕ, zero, suc, _+_, _-_, _*_, _^_, _≤_, _<_, min}
 use native.Mathlib.Nat.{suc-mul, mul-le-mul-right}
 use native.Mathlib.Numerals.{add-one}
 use native.Mathlib.Omega.{arith}
@@ -23,51 +23,68 @@ use Rattle.field.proofs.Multiplication.{mul-zero-left}
 use Rattle.blocks.specs.Bytes.{plus}
 use Rattle.blocks.proofs.Laws.{plus-length, plus-at}
 use Rattle.kernels.specs.Blocks.{product, arriving, Fits, Added}
-use Rattle.kernels.specs.Tiling.{bit, number, groupsOf, columns, multiple, tileAt, Tabled, Picked, named, byBits, Gathered, Reached, Spanned}
-use Rattle.kernels.proofs.Digits.{bit-lt, number-below, number-bits, digit-times, columns-most, grouped}
-use Rattle.kernels.proofs.Lanes.{picked-all}
+use Rattle.kernels.specs.Tiling.{bit, number, Grouped, columns, multiple, tileAt, Tabled, Picked, named, byBits, Stepped, Gathered, Reached, Spanned}
+use Rattle.kernels.proofs.Digits.{bit-lt, number-below, number-bits, digit-times, grouped}
 use Rattle.kernels.proofs.Arriving.{arriving-start, arriving-here, arriving-by, arriving-ext}
 use Rattle.kernels.proofs.Stretches.{stretch, length-stretch, stretch-at}
 
 -- ---- entries summed up one after the other
 
-module _ (table picks : List ℕ) (q : ℕ) (old : List ℕ) (size : length old ≡ 64) where
-  pub gathered-none : Gathered 0 table picks q old old
+module _ (t : ℕ) (table picks : List ℕ) (q : ℕ) (old : List ℕ) (size : length old ≡ t) where
+  pub gathered-none : Gathered t 0 table picks q old old
   unfolding named
   gathered-none = record { same = refl; sums = λ p h. sym (ap (add (getD old p 0)) (sum-zero _) ∙ add-zero-right (getD old p 0)) }
 
-  pub gathered-more : (g n : ℕ) (new last : List ℕ) → n ≡ g * 16 + cell 256 picks g q → last ≡ plus new (partOf 64 n table)
-      → Gathered g table picks q old new → Gathered (g + 1) table picks q old last
+  pub gathered-more : (g : ℕ) (new last : List ℕ) → last ≡ plus new (partOf t (g * 32 + cell 256 picks g q) table)
+      → Gathered t g table picks q old new → Gathered t (g + 1) table picks q old last
   unfolding named
-  gathered-more g n new last en e r =
+  gathered-more g new last e r =
       record {
-        same = ap length e ∙ plus-length new (partOf 64 n table) ∙ r .same;
+        same = ap length e ∙ plus-length new entry ∙ r .same;
         sums = λ p h.
-            ap (λ (l : List ℕ). getD l p 0) e ∙ plus-at new (partOf 64 n table) p (omega (arith, r .same))
-            ∙ ap₂ add (r .sums p h) (partOf-at 64 n table p h ∙ ap (λ (k : ℕ). cell 64 table k p) en) ∙ add-assoc (getD old p 0) _ _
-            ∙ ap (add (getD old p 0)) (sym (sum-last g _) ∙ ap (λ (k : ℕ). sum k (λ g. cell 64 table (g * 16 + cell 256 picks g q) p)) (sym (add-one g)));
+            ap (λ (l : List ℕ). getD l p 0) e ∙ plus-at new entry p (omega (arith, r .same))
+            ∙ ap₂ add (r .sums p h) (partOf-at t (g * 32 + cell 256 picks g q) table p h) ∙ add-assoc (getD old p 0) _ _
+            ∙ ap (add (getD old p 0)) (sym (sum-last g _) ∙ ap (λ (k : ℕ). sum k (λ g. cell t table (g * 32 + cell 256 picks g q) p)) (sym (add-one g)));
       }
+    where
+      entry : List ℕ
+      entry = partOf t (g * 32 + cell 256 picks g q) table
+
+  -- the first g of all groups, and one more if there is one
+  pub gathered-step : (groups g : ℕ) (new last : List ℕ) → Stepped t groups table picks g q new last → Gathered t (min g groups) table picks q old new
+      → Gathered t (min (g + 1) groups) table picks q old last
+  gathered-step groups g new last s r =
+      ⊎-elim
+      (λ (lt : g < groups).
+      let here : min g groups ≡ g = omega arith in
+      let next : min (g + 1) groups ≡ g + 1 = omega arith in
+      subst⁻¹ (λ (k : ℕ). Gathered t k table picks q old last) next
+      (gathered-more g new last (s .inside lt) (subst (λ (k : ℕ). Gathered t k table picks q old new) here r)))
+      (λ (le : groups ≤ g).
+      let stays : min g groups ≡ min (g + 1) groups = omega arith in
+      subst (λ (k : ℕ). Gathered t k table picks q old last) stays (subst⁻¹ (Gathered t (min g groups) table picks q old) (s .beyond le) r))
+      (lt-or g groups)
 
 -- ---- bit by bit
 
-module _ (groups : ℕ) (table picks : List ℕ) (i : ℕ) where
-  pub bits-none : replicate 64 0 ≡ tabulate 64 (byBits groups table picks i 0)
+module _ (t groups : ℕ) (table picks : List ℕ) (i : ℕ) where
+  pub bits-none : replicate t 0 ≡ tabulate t (byBits t groups table picks i 0)
   unfolding byBits
-  bits-none = sym (tabulate-zeros 64)
+  bits-none = sym (tabulate-zeros t)
 
-  pub bits-more : (s : ℕ) (tile twice last : List ℕ) → tile ≡ tabulate 64 (byBits groups table picks i s) → twice ≡ multiple 2 tile
-      → Gathered groups table picks (s * 32 + i) twice last → last ≡ tabulate 64 (byBits groups table picks i (s + 1))
+  pub bits-more : (s : ℕ) (tile twice last : List ℕ) → tile ≡ tabulate t (byBits t groups table picks i s) → twice ≡ multiple 2 tile
+      → Gathered t groups table picks (i * 8 + s) twice last → last ≡ tabulate t (byBits t groups table picks i (s + 1))
   unfolding byBits multiple
   bits-more s tile twice last e et r =
-      eq-tabulate 64 _ last (r .same ∙ ap length et ∙ length-tabulate (length tile) _ ∙ size)
+      eq-tabulate t _ last (r .same ∙ ap length et ∙ length-tabulate (length tile) _ ∙ size)
       (λ p h.
       r .sums p h
-      ∙ ap (λ (x : ℕ). add x (named groups table picks (s * 32 + i) p))
-      (ap (λ (l : List ℕ). getD l p 0) et ∙ getD-tabulate (length tile) _ p (omega (arith, size)) ∙ ap (mul 2) (ap (λ (l : List ℕ). getD l p 0) e ∙ getD-tabulate 64 _ p h))
-      ∙ ap (λ (k : ℕ). byBits groups table picks i k p) (sym (add-one s)))
+      ∙ ap (λ (x : ℕ). add x (named t groups table picks (i * 8 + s) p))
+      (ap (λ (l : List ℕ). getD l p 0) et ∙ getD-tabulate (length tile) _ p (omega (arith, size)) ∙ ap (mul 2) (ap (λ (l : List ℕ). getD l p 0) e ∙ getD-tabulate t _ p h))
+      ∙ ap (λ (k : ℕ). byBits t groups table picks i k p) (sym (add-one s)))
     where
-      size : length tile ≡ 64
-      size = ap length e ∙ length-tabulate 64 _
+      size : length tile ≡ t
+      size = ap length e ∙ length-tabulate t _
 
 -- ---- a row's sums are its tile of the product
 
@@ -75,18 +92,27 @@ cell-byte : (stride : ℕ) (coeffs : List ℕ) → Bytes coeffs → (i j : ℕ) 
 unfolding cell
 cell-byte stride coeffs bytes i j = bytes (i * stride + j)
 
--- every pick is below 32
-pub all-reached : (n groups rows stride : ℕ) (coeffs table picks : List ℕ) → n ≤ 32 → groups ≡ groupsOf n → groups * 1024 + 1024 ≤ length table
-    → Picked rows stride coeffs n n picks → (i s : ℕ) → i < rows → s < 8 → Reached groups (s * 32 + i) table picks
-all-reached n groups rows stride coeffs table picks n32 eg room k i s hi hs =
-    record {
-      room = room;
-      lanes = omega (arith, k .size);
-      small = λ g hg. subst⁻¹ (λ (x : ℕ). x < 32) (picked-all k g s i (omega arith) hs hi) (number-below (columns n g) 5 _ (λ j. bit-lt s _) (columns-most n g));
-    }
+module _ {n groups size : ℕ} (gr : Grouped n groups size) (rows stride : ℕ) (coeffs none picks : List ℕ) (k : Picked rows stride coeffs n groups size none picks) where
+  -- a pick has as many digits as its group has columns
+  pub pick-below : (m g s i : ℕ) → size ≤ m → g < groups → s < 8 → i < rows → cell 256 picks g (i * 8 + s) < 2 ^ m
+  unfolding columns
+  pick-below m g s i hm hg hs hi =
+      subst⁻¹ (λ (x : ℕ). x < 2 ^ m) (k .pick g s i hg hs hi) (number-below (columns size n g) m _ (λ j. bit-lt s _) (omega arith))
 
-module _ (b at w rows stride : ℕ) (src places coeffs room table picks : List ℕ) (bytes : Bytes coeffs)
-    (groups : ℕ) (eg : groups ≡ groupsOf (length places)) (t : Tabled b at w src places groups room table) (k : Picked rows stride coeffs (length places) (length places) picks) where
+  -- so it names an entry of a table with room for 2^m entries of the last group
+  pub picks-reach : (t m : ℕ) (table : List ℕ) → size ≤ m → ((g : ℕ) → g < groups → g * 256 + rows * 8 ≤ length picks)
+      → ((g : ℕ) → g < groups → (g * 32 + 2 ^ m) * t ≤ length table) → (i s : ℕ) → i < rows → s < 8 → Reached t groups (i * 8 + s) table picks
+  picks-reach t m table hm lanes entries i s hi hs =
+      record {
+        place = λ g hg. omega (arith, lanes g hg);
+        entry = λ g hg. omega (arith, suc-mul (g * 32 + cell 256 picks g (i * 8 + s)) t, mul-le-mul-right t (next g hg), entries g hg);
+      }
+    where
+      next : (g : ℕ) → g < groups → suc (g * 32 + cell 256 picks g (i * 8 + s)) ≤ g * 32 + 2 ^ m
+      next g hg = omega (arith, pick-below m g s i hm hg hs hi)
+
+module _ (t b at w rows stride : ℕ) (src places coeffs room table none picks : List ℕ) (bytes : Bytes coeffs) {groups size : ℕ} (gr : Grouped (length places) groups size)
+    (tab : Tabled t b at w size src places groups room table) (k : Picked rows stride coeffs (length places) groups size none picks) where
   module _ (i p : ℕ) (hi : i < rows) (hp : p < w) where
     abbrev c : ℕ → ℕ
     c j = cell stride coeffs i j
@@ -94,16 +120,15 @@ module _ (b at w rows stride : ℕ) (src places coeffs room table picks : List �
     abbrev x : ℕ → ℕ
     x j = tileAt b at src places j p
 
-    bit-sum : (s : ℕ) → s < 8 → named groups table picks (s * 32 + i) p ≡ sum (length places) (λ j. mul (bit s (c j)) (x j))
+    bit-sum : (s : ℕ) → s < 8 → named t groups table picks (i * 8 + s) p ≡ sum (length places) (λ j. mul (bit s (c j)) (x j))
     unfolding named
     bit-sum s hs =
-        ap (λ (m : ℕ). sum m (λ g. cell 64 table (g * 16 + cell 256 picks g (s * 32 + i)) p)) eg
-        ∙ grouped ((length places - 2) / 4) (length places) _ (λ j. mul (bit s (c j)) (x j)) refl
+        grouped gr _ (λ j. mul (bit s (c j)) (x j))
         (λ g hg.
-        ap (λ (q : ℕ). cell 64 table (g * 16 + q) p) (picked-all k g s i (omega arith) hs hi)
-        ∙ t .entry g (λ j. bit s (c (g * 4 + j))) p (omega arith) (λ j. bit-lt s _) hp)
+        ap (λ (q : ℕ). cell t table (g * 32 + q) p) (k .pick g s i hg hs hi)
+        ∙ tab .entry g (λ j. bit s (c (g * size + j))) p hg (λ j. bit-lt s _) hp)
 
-    bits-sum : (s : ℕ) → s ≤ 8 → byBits groups table picks i s p ≡ sum (length places) (λ j. mul (number s (λ r. bit r (c j))) (x j))
+    bits-sum : (s : ℕ) → s ≤ 8 → byBits t groups table picks i s p ≡ sum (length places) (λ j. mul (number s (λ r. bit r (c j))) (x j))
     unfolding byBits number
     bits-sum zero hs = sym (sum-zeros (length places) _ (λ j hj. mul-zero-left (x j)))
     bits-sum (suc s) hs =
@@ -112,7 +137,7 @@ module _ (b at w rows stride : ℕ) (src places coeffs room table picks : List �
         (λ j hj.
         sym (digit-times (number s (λ r. bit r (c j))) (bit s (c j)) (x j) (number-below s 7 _ (λ r. bit-lt r (c j)) (omega arith)) (bit-lt s (c j))))
 
-    pub row-product : byBits groups table picks i 8 p ≡ product b src places coeffs stride i (at + p)
+    pub row-product : byBits t groups table picks i 8 p ≡ product b src places coeffs stride i (at + p)
     unfolding product
     row-product =
         bits-sum 8 (omega arith) ∙ sum-ext (length places) _ _ (λ j hj. ap (λ (q : ℕ). mul q (x j)) (number-bits (c j) (cell-byte stride coeffs bytes i j)))
@@ -176,17 +201,17 @@ module _ (b at w : ℕ) (targets : List ℕ) (f : ℕ → ℕ → ℕ) (old : Li
           back = λ j p hp hb. apart j p hb (λ e. inr hp) ∙ s .back j p hp hb;
         }
 
-  -- as the code adds a row to at most 64 bytes
-  pub row-spanned : (w ≤ 64) → (t g : ℕ) (new part : List ℕ) → g ≡ getD targets t 0 → g * b + at + w ≤ length new → part ≡ plus (stretch (g * b + at) w new) (tabulate 64 (f t))
+  -- as the code adds a row to at most m bytes
+  pub row-spanned : (m : ℕ) → w ≤ m → (t g : ℕ) (new part : List ℕ) → g ≡ getD targets t 0 → g * b + at + w ≤ length new → part ≡ plus (stretch (g * b + at) w new) (tabulate m (f t))
       → Spanned b at w targets f t old new → Spanned b at w targets f (t + 1) old (putMid (g * b + at) (g * b + at + w - (g * b + at)) new part)
   unfolding cell
-  row-spanned w64 t g new part eg ends e s =
+  row-spanned m wm t g new part eg ends e s =
       spanned-more t (g * b + at) (g * b + at + w - (g * b + at)) new part (ap (λ (k : ℕ). k * b + at) eg) (omega arith) (omega arith)
       (ap length e ∙ plus-length (stretch (g * b + at) w new) _ ∙ l ∙ omega arith)
       (λ p hp.
       let q : g * b + at + p ≡ getD targets t 0 * b + (at + p) = omega (arith, ap (λ (k : ℕ). k * b) eg) in
       ap (λ (l : List ℕ). getD l p 0) e ∙ plus-at (stretch (g * b + at) w new) _ p (omega (arith, l))
-      ∙ ap₂ add (stretch-at (g * b + at) w new p hp ∙ ap (λ (k : ℕ). getD new k 0) q) (getD-tabulate 64 _ p (omega arith)))
+      ∙ ap₂ add (stretch-at (g * b + at) w new p hp ∙ ap (λ (k : ℕ). getD new k 0) q) (getD-tabulate m _ p (omega arith)))
       s
     where
       l : length (stretch (g * b + at) w new) ≡ w

@@ -1,13 +1,14 @@
 // A matrix of coefficients times blocks: the loops that the calls spend their time in. The contract is narrow and holds for slices of any lengths, so that the
 // inside can be replaced by a faster one.
 mod picks;
+mod short;
 mod tables;
 mod tiles;
 
 use base::wide;
 use field::times;
 ghost use mathlib.Core.Path.{_≡_};
-ghost use mathlib.Core.Bool.{false};
+ghost use mathlib.Core.Bool.{true, false};
 ghost use Prim.Native.Nat.{_≤_, _<_};
 ghost use lib.ListN.{length};
 ghost use Rattle.kernels.specs.Blocks.{Fits, Added};
@@ -109,15 +110,19 @@ fn add_fitting(
     requires { ⌜ Fits b stride (now targets) (now places) (length (now src)) (length (now coeffs)) (length (now out)) ⌝ }
     ensures { λ _. ⌜ Added b stride (now (src .entry)) (now (targets .entry)) (now (places .entry)) (now (coeffs .entry)) (now (out .entry)) (now (out .exit)) ⌝ }
 {
-    if prefers_rows(targets.len(), b, places.len()) {
+    if prefers_rows(targets.len(), places.len()) {
         add_rows(out, targets, b, src, places, coeffs, stride);
+        return;
+    }
+    if prefers_short(targets.len(), b, places.len()) {
+        short::add_short(out, targets, b, src, places, coeffs, stride);
         return;
     }
     tiles::add_tiled(out, targets, b, src, places, coeffs, stride);
 }
 
-// Whether a product is added row by row: few bytes do not pay for tables, and those have room for 32 rows and columns.
-fn prefers_rows(rows: usize, b: usize, width: usize) -> bool
+// Whether a product is added row by row: one row does not pay for tables, and those have room for 32 rows and columns.
+fn prefers_rows(rows: usize, width: usize) -> bool
     ensures { λ r. ⌜ (r ≡ false → (rows ≤ 32) × (width ≤ 32)) ⌝ }
 {
     if 32 < width {
@@ -126,16 +131,23 @@ fn prefers_rows(rows: usize, b: usize, width: usize) -> bool
     if 32 < rows {
         return true;
     }
-    if rows < 2 {
-        return true;
-    }
-    if 192 < b {
+    rows < 2
+}
+
+// Whether it goes in short tiles: the room for long ones costs more than it saves where there are few bytes.
+fn prefers_short(rows: usize, b: usize, width: usize) -> bool
+    ensures { λ r. ⌜ (r ≡ true → (rows ≤ 16) × (width ≤ 4)) ⌝ }
+{
+    if 16 < rows {
         return false;
     }
-    if width < 3 {
-        return rows * b <= 192;
+    if 4 < width {
+        return false;
     }
-    rows * b <= 128
+    if 512 < b {
+        return false;
+    }
+    rows * b <= 512
 }
 
 // Row by row.

@@ -1,91 +1,117 @@
 // Which entries of the groups' tables a row of coefficients sums. Of each group of columns, and each of the eight bits of a coefficient, the bits of its columns are
-// one number: the pick. The picks of up to 32 rows stand side by side, so that they are found for all rows at once.
+// one number: the pick. The eight picks of a row and group are found together, as the bytes of one word: each column doubles the word and adds its bits, spread over the bytes.
 use base::shorter;
+use base::wide;
 ghost use mathlib.Core.Path.{_≡_};
-ghost use Prim.Native.Nat.{_+_, _≤_};
-ghost use lib.ListN.{length, replicate};
-ghost use Rattle.base.specs.Seq.{cell};
-ghost use Rattle.base.specs.Parts.{Filled, Blocked};
+ghost use Prim.Native.Nat.{ℕ, _+_, _*_, _/_, _%_, _^_, _≤_, _<_};
+ghost use lib.ListN.{length};
+ghost use Rattle.base.specs.Seq.{tabulate};
 ghost use Rattle.kernels.specs.Blocks.{Rows};
-ghost use Rattle.kernels.specs.Tiling.{groupsOf, appended, shifted, longer, Picked};
+ghost use Rattle.kernels.specs.Tiling.{bit, word, Grouped, pickOf, Spread, RowPicked, Picked};
 
-// How many groups n columns make. Each has four, and the last up to five, so that no column is left to a group of its own.
-pub(crate) fn groups_of(n: usize) -> usize
-    ensures { λ r. ⌜ r ≡ groupsOf n ⌝ }
-{
-    if n < 2 {
-        return 1;
-    }
-    (n - 2) / 4 + 1
-}
-
-// picks, all zero, := those of a matrix of coefficients. Each group has 256, and the one at place s·32 + i belongs to bit 7 - s and row i.
-pub(crate) fn fill_picks(picks: &mut [u8], rows: usize, width: usize, coeffs: &[u8], stride: usize)
-    requires { ⌜ now picks ≡ replicate 2048 0 ⌝ }
-    requires { ⌜ (rows ≤ 32) × (width ≤ 32) ⌝ }
+// picks := those of a matrix of coefficients. Each group has 256, and the one at place i·8 + s belongs to row i and bit 7 - s.
+pub(crate) fn fill_picks(
+    picks: &mut [u8],
+    groups: usize,
+    size: usize,
+    rows: usize,
+    width: usize,
+    coeffs: &[u8],
+    stride: usize,
+)
+    requires { ⌜ Grouped width groups size ⌝ }
+    requires { ⌜ (rows ≤ 32) × ((g i : ℕ) → g < groups → i < rows → g * 256 + i * 8 + 8 ≤ length (now picks)) ⌝ }
     requires { ⌜ Rows rows width stride (length (now coeffs)) ⌝ }
-    ensures { λ _. ⌜ Picked rows stride (now (coeffs .entry)) width width (now (picks .exit)) ⌝ }
+    ensures { λ _. ⌜ Picked rows stride (now (coeffs .entry)) width groups size (now (picks .entry)) (now (picks .exit)) ⌝ }
 {
-    let last = groups_of(width) - 1;
-    let mut j = 0;
-    while j < width {
-        let mut lanes = [0u8; 32];
-        take_column(&mut lanes, rows, j, coeffs, stride);
-        let at = shorter(j / 4, last) * 256;
-        let end = at + 256;
-        append_bits(&mut picks[at..end], &mut lanes);
-        j += 1;
-    }
-}
-
-// The lanes become column j of the coefficients.
-fn take_column(lanes: &mut [u8], rows: usize, j: usize, coeffs: &[u8], stride: usize)
-    requires { ⌜ (length (now lanes) ≡ 32) × (rows ≤ 32) ⌝ }
-    requires { ⌜ Rows rows (j + 1) stride (length (now coeffs)) ⌝ }
-    ensures { λ _. ⌜ Filled (λ i. cell stride (now (coeffs .entry)) i j) rows (now (lanes .entry)) (now (lanes .exit)) ⌝ }
-{
+    let spreads = spreads();
     let mut i = 0;
     while i < rows {
-        lanes[i] = coeffs[i * stride + j];
+        let row = i * stride;
+        let end = row + width;
+        fill_row(picks, groups, size, i, &coeffs[row..end], &spreads);
         i += 1;
     }
 }
 
-// To each pick of a group the bit of its lane is appended.
-fn append_bits(picks: &mut [u8], lanes: &mut [u8])
-    requires { ⌜ (length (now picks) ≡ 256) × (length (now lanes) ≡ 32) ⌝ }
-    ensures { λ _. ⌜ Blocked 32 8 (longer (now (picks .entry)) (now (lanes .entry))) 8 (now (picks .entry)) (now (picks .exit)) ⌝ }
+// Row i of the picks := that of its coefficients.
+fn fill_row(picks: &mut [u8], groups: usize, size: usize, i: usize, coeffs: &[u8], spreads: &[u32])
+    requires { ⌜ Grouped (length (now coeffs)) groups size ⌝ }
+    requires { ⌜ (i < 32) × ((g : ℕ) → g < groups → g * 256 + i * 8 + 8 ≤ length (now picks)) ⌝ }
+    requires { ⌜ Spread (now spreads) ⌝ }
+    ensures { λ _. ⌜ RowPicked i size (now (coeffs .entry)) groups (now (picks .entry)) (now (picks .exit)) ⌝ }
 {
+    let mut g = 0;
+    while g < groups {
+        let j = g * size;
+        let end = j + shorter(size, coeffs.len() - j);
+        let word = word_of(&coeffs[j..end], spreads);
+        let at = g * 256 + i * 8;
+        let stop = at + 8;
+        put_word(&mut picks[at..stop], word);
+        g += 1;
+    }
+}
+
+// The eight picks of at most five coefficients, as the bytes of a word, that of the highest bit the lowest byte.
+fn word_of(coeffs: &[u8], spreads: &[u32]) -> u64
+    requires { ⌜ length (now coeffs) ≤ 5 ⌝ }
+    requires { ⌜ Spread (now spreads) ⌝ }
+    ensures { λ r. ⌜ r ≡ word 8 (pickOf (now (coeffs .entry))) ⌝ }
+{
+    let mut word = 0;
+    let mut k = 0;
+    while k < coeffs.len() {
+        word = word * 2 + spread(coeffs[k], spreads);
+        k += 1;
+    }
+    word
+}
+
+// The bits of c, each as a byte of a word, the highest the lowest byte.
+fn spread(c: u8, spreads: &[u32]) -> u64
+    requires { ⌜ Spread (now spreads) ⌝ }
+    ensures { λ r. ⌜ r ≡ word 8 (λ s. bit s c) ⌝ }
+{
+    let high = spreads[wide(c / 16)] as u64;
+    let low = spreads[wide(c % 16)] as u64;
+    low * 4294967296 + high
+}
+
+// The same of each half byte: four bits, four bytes.
+fn spreads() -> [u32; 16]
+    ensures { λ r. ⌜ Spread r ⌝ }
+{
+    [
+        0,
+        16777216,
+        65536,
+        16842752,
+        256,
+        16777472,
+        65792,
+        16843008,
+        1,
+        16777217,
+        65537,
+        16842753,
+        257,
+        16777473,
+        65793,
+        16843009,
+    ]
+}
+
+// The bytes of a word, the lowest first.
+fn put_word(picks: &mut [u8], word: u64)
+    requires { ⌜ length (now picks) ≡ 8 ⌝ }
+    ensures { λ _. ⌜ now (picks .exit) ≡ tabulate 8 (λ s. word / 256 ^ s % 256) ⌝ }
+{
+    let mut rest = word;
     let mut s = 0;
     while s < 8 {
-        let at = s * 32;
-        let end = at + 32;
-        append_bit(&mut picks[at..end], lanes);
-        shift_lanes(lanes);
+        picks[s] = (rest % 256) as u8;
+        rest = rest / 256;
         s += 1;
-    }
-}
-
-// To each pick the top bit of its lane is appended.
-fn append_bit(picks: &mut [u8], lanes: &[u8])
-    requires { ⌜ (length (now picks) ≡ 32) × (length (now lanes) ≡ 32) ⌝ }
-    ensures { λ _. ⌜ now (picks .exit) ≡ appended (now (picks .entry)) (now (lanes .entry)) ⌝ }
-{
-    let mut i = 0;
-    while i < 32 {
-        picks[i] = (picks[i] % 128) * 2 + lanes[i] / 128;
-        i += 1;
-    }
-}
-
-// Each lane loses its top bit.
-fn shift_lanes(lanes: &mut [u8])
-    requires { ⌜ length (now lanes) ≡ 32 ⌝ }
-    ensures { λ _. ⌜ now (lanes .exit) ≡ shifted (now (lanes .entry)) ⌝ }
-{
-    let mut i = 0;
-    while i < 32 {
-        lanes[i] = (lanes[i] % 128) * 2;
-        i += 1;
     }
 }

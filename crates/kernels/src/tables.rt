@@ -1,4 +1,5 @@
 // The sums of a tile, 64 bytes of a block, over every choice of columns from a group.
+use base::shorter;
 use base::wide;
 use blocks::add_block;
 use blocks::clear;
@@ -10,13 +11,13 @@ ghost use lib.ListN.{length};
 ghost use Rattle.base.specs.Parts.{partOf, putBlock};
 ghost use Rattle.blocks.specs.Bytes.{plus};
 ghost use Rattle.kernels.specs.Blocks.{Inside};
-ghost use Rattle.kernels.specs.Tiling.{groupsOf, taken, multiple, tileAt, Raised, Chosen, Tabled};
+ghost use Rattle.kernels.specs.Tiling.{Grouped, multiple, tileAt, Raised, Chosen, Tabled};
 
-// The table of every group: the sums of the w bytes from `at` on of the blocks at its places. Each is lent room for five columns; a
-// group that is not the last has four and leaves the second half of it to the next.
+// The table of every group: the sums of the w bytes from `at` on of the blocks at its places.
 pub(crate) fn fill_groups(
     table: &mut [u8],
     groups: usize,
+    size: usize,
     b: usize,
     at: usize,
     w: usize,
@@ -25,28 +26,19 @@ pub(crate) fn fill_groups(
 )
     requires { ⌜ Inside b (now places) (length (now src)) ⌝ }
     requires { ⌜ (at + w ≤ b) × (w ≤ 64) ⌝ }
-    requires { ⌜ (groups ≡ groupsOf (length (now places))) × (groups * 1024 + 1024 ≤ length (now table)) ⌝ }
-    ensures { λ _. ⌜ Tabled b at w (now (src .entry)) (now (places .entry)) groups (now (table .entry)) (now (table .exit)) ⌝ }
+    requires { ⌜ Grouped (length (now places)) groups size ⌝ }
+    requires { ⌜ groups * 2048 ≤ length (now table) ⌝ }
+    ensures { λ _. ⌜ Tabled 64 b at w size (now (src .entry)) (now (places .entry)) groups (now (table .entry)) (now (table .exit)) ⌝ }
 {
     let mut g = 0;
     while g < groups {
-        let j = g * 4;
-        let end = j + group_size(places.len() - j);
-        let first = g * 1024;
+        let j = g * size;
+        let end = j + shorter(size, places.len() - j);
+        let first = g * 2048;
         let last = first + 2048;
         fill_group(&mut table[first..last], b, at, w, src, &places[j..end]);
         g += 1;
     }
-}
-
-// How many of the columns that are left the next group has.
-fn group_size(left: usize) -> usize
-    ensures { λ r. ⌜ r ≡ taken left ⌝ }
-{
-    if left < 6 {
-        return left;
-    }
-    4
 }
 
 // Entry n of a group's table: the sum of the columns that the bits of n name, the last column by the lowest bit.
@@ -54,7 +46,7 @@ fn fill_group(table: &mut [u8], b: usize, at: usize, w: usize, src: &[u8], place
     requires { ⌜ Inside b (now places) (length (now src)) ⌝ }
     requires { ⌜ (at + w ≤ b) × (w ≤ 64) ⌝ }
     requires { ⌜ (length (now places) ≤ 5) × (length (now table) ≡ 2048) ⌝ }
-    ensures { λ _. ⌜ Chosen w (length (now (places .entry))) (tileAt b at (now (src .entry)) (now (places .entry))) (now (table .exit)) ⌝ }
+    ensures { λ _. ⌜ Chosen 64 w (length (now (places .entry))) (tileAt b at (now (src .entry)) (now (places .entry))) (now (table .entry)) (now (table .exit)) ⌝ }
 {
     clear(&mut table[0..64]);
     let mut t = places.len();
@@ -70,8 +62,8 @@ fn fill_group(table: &mut [u8], b: usize, at: usize, w: usize, src: &[u8], place
 
 // Entries half to 2·half - 1: each entry below half, plus the column. A byte that the column does not have counts as 00.
 fn add_column(table: &mut [u8], half: usize, part: &[u8])
-    requires { ⌜ (length (now table) ≡ 2048) × (half ≤ 16) ⌝ }
-    ensures { λ _. ⌜ Raised half half (now (part .entry)) (now (table .entry)) (now (table .exit)) ⌝ }
+    requires { ⌜ (length (now table) ≡ 2048) × (half ≤ 16) × (length (now part) ≤ 64) ⌝ }
+    ensures { λ _. ⌜ Raised 64 half half (now (part .entry)) (now (table .entry)) (now (table .exit)) ⌝ }
 {
     let mut tile = [0u8; 64];
     add_part(&mut tile, part);
@@ -109,11 +101,10 @@ fn set_tile(table: &mut [u8], n: usize, tile: &[u8])
 
 // x := 02·x
 pub(crate) fn double_tile(x: &mut [u8])
-    requires { ⌜ length (now x) ≡ 64 ⌝ }
     ensures { λ _. ⌜ now (x .exit) ≡ multiple 2 (now (x .entry)) ⌝ }
 {
     let mut p = 0;
-    while p < 64 {
+    while p < x.len() {
         x[p] = double(x[p]);
         p += 1;
     }
@@ -121,28 +112,26 @@ pub(crate) fn double_tile(x: &mut [u8])
 
 // x += y
 pub(crate) fn add_tile(x: &mut [u8], y: &[u8])
-    requires { ⌜ length (now x) ≡ 64 ⌝ }
-    requires { ⌜ length (now y) ≡ 64 ⌝ }
+    requires { ⌜ length (now x) ≡ length (now y) ⌝ }
     ensures { λ _. ⌜ now (x .exit) ≡ plus (now (x .entry)) (now (y .entry)) ⌝ }
 {
     let mut p = 0;
-    while p < 64 {
+    while p < x.len() {
         x[p] = x[p] ^ y[p];
         p += 1;
     }
 }
 
-// dst += src, the fast way where both are whole tiles.
+// dst += src, of at most 64 bytes: the fast way where both are as long. The other way goes through a copy, so that src can stay in registers.
 pub(crate) fn add_part(dst: &mut [u8], src: &[u8])
+    requires { ⌜ length (now src) ≤ 64 ⌝ }
     ensures { λ _. ⌜ now (dst .exit) ≡ plus (now (dst .entry)) (now (src .entry)) ⌝ }
 {
-    if dst.len() != 64 {
-        add_block(dst, src);
+    if dst.len() == src.len() {
+        add_tile(dst, src);
         return;
     }
-    if src.len() != 64 {
-        add_block(dst, src);
-        return;
-    }
-    add_tile(dst, src);
+    let mut copy = [0u8; 64];
+    copy_block(&mut copy, src);
+    add_block(dst, &copy);
 }

@@ -1,8 +1,7 @@
-// A product in tiles of 64 bytes, by the bits of the coefficients: c·x is the sum of 02^s·x over the bits s that c has. Columns go in groups of four, the last of up
-// to five: the sums of a group's tiles, up to 32, are found once, and then every row takes, for each bit from the top, one sum of each group, and doubles before the
-// next bit. Nothing branches on a coefficient.
+// A product in tiles of 64 bytes, by the bits of the coefficients: c·x is the sum of 02^s·x over the bits s that c has. Columns go in groups of at most five: the sums
+// of a group's tiles, up to 32, are found once, and then every row takes, for each bit from the top, one sum of each group, and doubles before the next bit. Nothing
+// branches on a coefficient.
 use crate::picks::fill_picks;
-use crate::picks::groups_of;
 use crate::tables::add_part;
 use crate::tables::add_tile;
 use crate::tables::double_tile;
@@ -11,11 +10,11 @@ use base::shorter;
 use base::wide;
 ghost use mathlib.Core.Path.{_≡_};
 ghost use Prim.Native.Nat.{ℕ, _+_, _*_, _≤_, _<_};
-ghost use lib.ListN.{length, replicate};
+ghost use lib.ListN.{length};
 ghost use Rattle.base.specs.Seq.{tabulate};
 ghost use Rattle.blocks.specs.Bytes.{plus};
 ghost use Rattle.kernels.specs.Blocks.{Inside, Fits, Added};
-ghost use Rattle.kernels.specs.Tiling.{byBits, Gathered, Reached, Spanned};
+ghost use Rattle.kernels.specs.Tiling.{groupsOf, sizeOf, byBits, Stepped, Gathered, Reached, Spanned};
 
 // out += a product of at most 32 rows and 32 columns. Doubling the zeros of the first tile changes nothing; it makes the compiler lay the table on a boundary
 // of 16 bytes, so that a load from it is part of a sum.
@@ -32,9 +31,9 @@ pub(crate) fn add_tiled(
     requires { ⌜ (length (now targets) ≤ 32) × (length (now places) ≤ 32) ⌝ }
     ensures { λ _. ⌜ Added b stride (now (src .entry)) (now (targets .entry)) (now (places .entry)) (now (coeffs .entry)) (now (out .entry)) (now (out .exit)) ⌝ }
 {
-    let mut table = [0u8; 9216];
+    let mut table = [0u8; 14336];
     double_tile(&mut table[..64usize]);
-    let mut picks = [0u8; 2048];
+    let mut picks = [0u8; 1792];
     add_tiles(
         &mut table,
         &mut picks,
@@ -48,7 +47,7 @@ pub(crate) fn add_tiled(
     );
 }
 
-// out += the product, tile by tile. The table has room for every group's sums.
+// out += the product, tile by tile. There is room for seven groups.
 fn add_tiles(
     table: &mut [u8],
     picks: &mut [u8],
@@ -62,18 +61,38 @@ fn add_tiles(
 )
     requires { ⌜ Fits b stride (now targets) (now places) (length (now src)) (length (now coeffs)) (length (now out)) ⌝ }
     requires { ⌜ (length (now targets) ≤ 32) × (length (now places) ≤ 32) ⌝ }
-    requires { ⌜ (9216 ≤ length (now table)) × (now picks ≡ replicate 2048 0) ⌝ }
+    requires { ⌜ (14336 ≤ length (now table)) × (1792 ≤ length (now picks)) ⌝ }
     ensures { λ _. ⌜ Added b stride (now (src .entry)) (now (targets .entry)) (now (places .entry)) (now (coeffs .entry)) (now (out .entry)) (now (out .exit)) ⌝ }
 {
-    fill_picks(picks, targets.len(), places.len(), coeffs, stride);
-    let groups = groups_of(places.len());
+    let width = places.len();
+    let groups = groups_of(width);
+    let size = size_of(width, groups);
+    fill_picks(picks, groups, size, targets.len(), width, coeffs, stride);
     let mut at = 0;
     while at < b {
         let w = shorter(64, b - at);
-        fill_groups(table, groups, b, at, w, src, places);
+        fill_groups(table, groups, size, b, at, w, src, places);
         add_tile_rows(out, targets, b, at, w, table, groups, picks);
         at += w;
     }
+}
+
+// How many groups n columns make.
+fn groups_of(n: usize) -> usize
+    ensures { λ r. ⌜ r ≡ groupsOf n ⌝ }
+{
+    if n == 0 {
+        return 1;
+    }
+    (n - 1) / 5 + 1
+}
+
+// How many columns each has but the last, which has those that are left.
+fn size_of(n: usize, groups: usize) -> usize
+    requires { ⌜ (n ≤ 32) × (groups ≡ groupsOf n) ⌝ }
+    ensures { λ r. ⌜ r ≡ sizeOf n ⌝ }
+{
+    (n + groups - 1) / groups
 }
 
 // To the w bytes from `at` on of each target's block, their sum of the tables' entries is added.
@@ -88,9 +107,10 @@ fn add_tile_rows(
     picks: &[u8],
 )
     requires { ⌜ Inside b (now targets) (length (now out)) ⌝ }
-    requires { ⌜ (at + w ≤ b) × (w ≤ 64) × (length (now targets) ≤ 32) ⌝ }
-    requires { ⌜ ((i s : ℕ) → i < length (now targets) → s < 8 → Reached groups (s * 32 + i) (now table) (now picks)) ⌝ }
-    ensures { λ _. ⌜ Spanned b at w (now (targets .entry)) (λ i. byBits groups (now (table .entry)) (now (picks .entry)) i 8) (length (now (targets .entry))) (now (out .entry)) (now (out .exit)) ⌝ }
+    requires { ⌜ (at + w ≤ b) × (w ≤ 64) ⌝ }
+    requires { ⌜ (groups ≤ 7) × (length (now targets) ≤ 32) ⌝ }
+    requires { ⌜ ((i s : ℕ) → i < length (now targets) → s < 8 → Reached 64 groups (i * 8 + s) (now table) (now picks)) ⌝ }
+    ensures { λ _. ⌜ Spanned b at w (now (targets .entry)) (λ i. byBits 64 groups (now (table .entry)) (now (picks .entry)) i 8) (length (now (targets .entry))) (now (out .entry)) (now (out .exit)) ⌝ }
 {
     let mut i = 0;
     while i < targets.len() {
@@ -103,32 +123,44 @@ fn add_tile_rows(
 
 // To at most 64 bytes of row i, their sum of the tables' entries is added.
 fn add_row(dst: &mut [u8], table: &[u8], groups: usize, picks: &[u8], i: usize)
-    requires { ⌜ i < 32 ⌝ }
-    requires { ⌜ ((s : ℕ) → s < 8 → Reached groups (s * 32 + i) (now table) (now picks)) ⌝ }
-    ensures { λ _. ⌜ now (dst .exit) ≡ plus (now (dst .entry)) (tabulate 64 (byBits groups (now (table .entry)) (now (picks .entry)) i 8)) ⌝ }
+    requires { ⌜ (groups ≤ 7) × (i < 32) ⌝ }
+    requires { ⌜ ((s : ℕ) → s < 8 → Reached 64 groups (i * 8 + s) (now table) (now picks)) ⌝ }
+    ensures { λ _. ⌜ now (dst .exit) ≡ plus (now (dst .entry)) (tabulate 64 (byBits 64 groups (now (table .entry)) (now (picks .entry)) i 8)) ⌝ }
 {
     let mut sum = [0u8; 64];
     let mut s = 0;
     while s < 8 {
         double_tile(&mut sum);
-        add_picked(&mut sum, table, groups, picks, s * 32 + i);
+        add_picked(&mut sum, table, groups, picks, i * 8 + s);
         s += 1;
     }
     add_part(dst, &sum);
 }
 
-// sum += the entry of each group that its pick at place q names.
+// sum += the entry of each group that its pick at place q names. There are at most seven groups; a constant bound lets the compiler unroll the loop.
 fn add_picked(sum: &mut [u8], table: &[u8], groups: usize, picks: &[u8], q: usize)
-    requires { ⌜ (length (now sum) ≡ 64) × (q < 256) ⌝ }
-    requires { ⌜ Reached groups q (now table) (now picks) ⌝ }
-    ensures { λ _. ⌜ Gathered groups (now (table .entry)) (now (picks .entry)) q (now (sum .entry)) (now (sum .exit)) ⌝ }
+    requires { ⌜ (length (now sum) ≡ 64) × (groups ≤ 7) ⌝ }
+    requires { ⌜ Reached 64 groups q (now table) (now picks) ⌝ }
+    ensures { λ _. ⌜ Gathered 64 groups (now (table .entry)) (now (picks .entry)) q (now (sum .entry)) (now (sum .exit)) ⌝ }
 {
     let mut g = 0;
-    while g < groups {
-        let n = g * 16 + wide(picks[g * 256 + q]);
-        let at = n * 64;
-        let end = at + 64;
-        add_tile(sum, &table[at..end]);
+    while g < 7 {
+        add_entry(sum, table, groups, picks, g, q);
         g += 1;
     }
+}
+
+// sum += the entry of group g, if there is that group.
+fn add_entry(sum: &mut [u8], table: &[u8], groups: usize, picks: &[u8], g: usize, q: usize)
+    requires { ⌜ length (now sum) ≡ 64 ⌝ }
+    requires { ⌜ Reached 64 groups q (now table) (now picks) ⌝ }
+    ensures { λ _. ⌜ Stepped 64 groups (now (table .entry)) (now (picks .entry)) g q (now (sum .entry)) (now (sum .exit)) ⌝ }
+{
+    if groups <= g {
+        return;
+    }
+    let n = g * 32 + wide(picks[g * 256 + q]);
+    let at = n * 64;
+    let end = at + 64;
+    add_tile(sum, &table[at..end]);
 }

@@ -15,8 +15,11 @@ same-length c = search needs
 returns : tie.Need-returns
 returns c = search needs
 
-add-tiled-requires : tie.Need-add-tiled-requires
-add-tiled-requires c κs = (c .before .before .before .before .before .before .before .before .pre, c .before .before .prefers-rows .ensures (c .before .if1 .left))
+prefers-short-requires : tie.Need-prefers-short-requires
+prefers-short-requires c κs = search needs
+
+add-short-requires : tie.Need-add-short-requires
+add-short-requires c κs = (c .before .before .before .before .before .before .before .before .before .before .pre, c .before .before .prefers-short .ensures (c .before .if2 .taken))
 
 same-length-2 : tie.Need-same-length-2
 same-length-2 c = search needs
@@ -24,6 +27,27 @@ same-length-2 c = search needs
 returns-2 : tie.Need-returns-2
 returns-2 c = search needs
 
+add-tiled-requires : tie.Need-add-tiled-requires
+add-tiled-requires c κs = (c .before .before .before .before .before .before .before .before .before .before .pre, c .before .before .before .before .prefers-rows .ensures (c .before .before .before .if1 .left))
+
+same-length-3 : tie.Need-same-length-3
+same-length-3 c = search needs
+
+returns-3 : tie.Need-returns-3
+returns-3 c = search needs
+
 pub add-fitting-spec : {M : Type 1} → statement M
 add-fitting-spec =
-    tie.close (tie.spec prefers-rows-requires add-rows-requires same-length returns add-tiled-requires same-length-2 returns-2)
+    tie.close
+    (tie.spec
+    prefers-rows-requires
+    add-rows-requires
+    same-length
+    returns
+    prefers-short-requires
+    add-short-requires
+    same-length-2
+    returns-2
+    add-tiled-requires
+    same-length-3
+    returns-3)

@@ -1,90 +1,78 @@
--- After j turns the picks have the digits of the first j columns. Assumes nothing.
-use mathlib.Core.Path.{_≡_, refl, subst}
-use Prim.Native.Nat.{ℕ, _-_, _≤_}
+-- After i turns the first i rows have their picks. Assumes nothing.
+use mathlib.Core.Path.{subst, subst⁻¹}
+use Prim.Native.Nat.{ℕ, _+_, _-_, _*_, _≤_}
 use denote.Ref.{now}
 use native.Mathlib.Omega.{arith}
 use borrow.Author.Needs.{needs}
 use lib.ListN.{length}
-use Rattle.base.proofs.Parts.{length-partOf}
-use Rattle.kernels.specs.Tiling.{Picked}
-use Rattle.kernels.proofs.Lanes.{picked-none, picked-more}
+use Rattle.kernels.specs.Tiling.{Grouped, Picked}
+use Rattle.kernels.proofs.Stretches.{length-stretch}
+use Rattle.kernels.proofs.Words.{picked-none, picked-more}
 use Rattle.kernels.proofs.picks.fill_picks.Statement.{statement}
 use Rattle.kernels.proofs.picks.fill_picks.Tie as tie
 
 abbrev Inv-loop : tie.InvT-loop
-Inv-loop picks₀ rows width coeffs stride last j₀ picks j = (j ≤ width) × (length picks ≡ length picks₀) × Picked rows stride coeffs width j picks
+Inv-loop picks₀ groups size rows width coeffs stride spreads i₀ picks i = (i ≤ rows) × Picked i stride coeffs width groups size picks₀ picks
 
 abbrev μ-loop : tie.MeasureT-loop
-μ-loop picks₀ rows width coeffs stride last j₀ picks j = width - j
+μ-loop picks₀ groups size rows width coeffs stride spreads i₀ picks i = rows - i
 
-groups-of-requires : tie.Need-groups-of-requires Inv-loop μ-loop
-groups-of-requires c κs = search needs
-
-sub-last : tie.Need-sub-last Inv-loop μ-loop
-sub-last c = search needs
+spreads-requires : tie.Need-spreads-requires Inv-loop μ-loop
+spreads-requires c κs = search needs
 
 loop-holds : tie.Need-loop-holds Inv-loop μ-loop
-loop-holds c =
-    let s = c .before .before .before in
-    (omega arith, refl, picked-none _ _ _ (s .pre .1 .0 .0) _ (s .pre .1 .0 .1) _ (s .pre .0))
+loop-holds c = (omega arith, picked-none _ _ _ _ _ _)
 
-slice-aggregate-take-column : tie.Need-slice-aggregate-take-column Inv-loop μ-loop
-slice-aggregate-take-column c = search needs
+-- a row ends within the coefficients
+ends : (c : tie.In-loop Inv-loop μ-loop) → c .before .loop .i * c .before .before .before .before .before .args .stride + c .before .before .before .before .before .args .width ≤ length (now (c .before .before .before .before .before .args .coeffs))
+ends c = c .before .before .before .before .before .pre .1 .1 (c .before .loop .i) (omega arith)
 
-take-column-requires : tie.Need-take-column-requires Inv-loop μ-loop
-take-column-requires c κs =
-    let s = c .before .before .before .before .before .before in
-    ((refl, s .pre .1 .0 .0), λ i hi. omega (arith, s .pre .1 .1 i hi))
-
-shorter-requires : tie.Need-shorter-requires Inv-loop μ-loop
-shorter-requires c κs = search needs
-
-mul-at : tie.Need-mul-at Inv-loop μ-loop
-mul-at c = search needs
+mul-row : tie.Need-mul-row Inv-loop μ-loop
+mul-row c = omega (arith, ends c)
 
 add-end : tie.Need-add-end Inv-loop μ-loop
-add-end c = search needs
+add-end c = omega (arith, ends c)
 
-sub-append-bits : tie.Need-sub-append-bits Inv-loop μ-loop
-sub-append-bits c = search needs
+sub-fill-row : tie.Need-sub-fill-row Inv-loop μ-loop
+sub-fill-row c = search needs
 
-part-append-bits-start : tie.Need-part-append-bits-start Inv-loop μ-loop
-part-append-bits-start c = search needs
+part-fill-row-start : tie.Need-part-fill-row-start Inv-loop μ-loop
+part-fill-row-start c = search needs
 
-part-append-bits-end : tie.Need-part-append-bits-end Inv-loop μ-loop
-part-append-bits-end c = omega (arith, c .before .before .before .before .before .loop .inv .2 .size)
+part-fill-row-end : tie.Need-part-fill-row-end Inv-loop μ-loop
+part-fill-row-end c = ends (c .before)
 
-slice-aggregate-append-bits : tie.Need-slice-aggregate-append-bits Inv-loop μ-loop
-slice-aggregate-append-bits c = search needs
+slice-aggregate-fill-row : tie.Need-slice-aggregate-fill-row Inv-loop μ-loop
+slice-aggregate-fill-row c = search needs
 
-append-bits-requires : tie.Need-append-bits-requires Inv-loop μ-loop
-append-bits-requires c κs =
-    let l = c .before .before .before .before .before .before .before .loop in
-    (length-partOf 256 (c .before .before .shorter .result) (l .picks) (omega (arith, l .inv .2 .size)), search needs)
+fill-row-requires : tie.Need-fill-row-requires Inv-loop μ-loop
+fill-row-requires c κs =
+    let s = c .before .before .before .before .before .before .before .before in
+    let l = c .before .before .before .before .loop in
+    let i = l .i in (
+      subst⁻¹ (λ (n : ℕ). Grouped n (s .args .groups) (s .args .size)) (length-stretch (i * s .args .stride) (s .args .width) (now (s .args .coeffs)) (ends (c .before .before .before))) (s .pre .0),
+      ((omega arith, λ g hg. omega (arith, s .pre .1 .0 .1 g i hg (omega arith), l .inv .1 .same)), c .before .before .before .before .before .spreads .ensures),
+    )
 
-add-j : tie.Need-add-j Inv-loop μ-loop
-add-j c = search needs
+add-i : tie.Need-add-i Inv-loop μ-loop
+add-i c = search needs
 
 loop-less : tie.Need-loop-less Inv-loop μ-loop
 loop-less c = search needs
 
 loop-again : tie.Need-loop-again Inv-loop μ-loop
 loop-again c =
-    let s = c .before .before .before .before .before .before .before .before .before .before .before .before .before .before .before in
-    let l = c .before .before .before .before .before .before .before .before .before .before .before .loop in
-    let g = c .before .before .before .before .before .before .shorter in
-    let more = picked-more _ _ _ (s .pre .1 .0 .0) _ (s .pre .1 .0 .1) (l .j) (g .result) (l .picks) _ _ _ (omega arith) (omega arith) (λ lt. omega (arith, g .ensures .1 .1 lt)) (omega arith)
-    (c .before .before .before .before .before .before .before .before .take-column .ensures) (c .before .before .before .append-bits .ensures) (l .inv .2) in
-    (omega arith, omega (arith, more .size, l .inv .2 .size), more)
+    let l = c .before .before .before .before .before .before .before .loop in
+    (omega arith, picked-more (l .i) _ _ _ _ _ _ (l .picks) _ (omega arith) (ends (c .before .before .before .before .before .before)) (c .before .before .fill-row .ensures) (l .inv .1))
 
 same-length : tie.Need-same-length Inv-loop μ-loop
-same-length c = c .before .loop .inv .1
+same-length c = c .before .loop .inv .1 .same
 
 returns : tie.Need-returns Inv-loop μ-loop
 returns c =
     let l = c .before .loop in
     let s = c .before .before .before .before .before .args in
-    subst (λ (n : ℕ). Picked (s .rows) (s .stride) (now (s .coeffs)) (s .width) n (l .picks)) (omega arith) (l .inv .2)
+    subst (λ (n : ℕ). Picked n (s .stride) (now (s .coeffs)) (s .width) (s .groups) (s .size) (now (s .picks)) (l .picks)) (omega arith) (l .inv .1)
 
 pub fill-picks-spec : {M : Type 1} → statement M
 fill-picks-spec =
@@ -92,20 +80,16 @@ fill-picks-spec =
     (tie.spec
     Inv-loop
     μ-loop
-    groups-of-requires
-    sub-last
+    spreads-requires
     loop-holds
-    slice-aggregate-take-column
-    take-column-requires
-    shorter-requires
-    mul-at
+    mul-row
     add-end
-    sub-append-bits
-    part-append-bits-start
-    part-append-bits-end
-    slice-aggregate-append-bits
-    append-bits-requires
-    add-j
+    sub-fill-row
+    part-fill-row-start
+    part-fill-row-end
+    slice-aggregate-fill-row
+    fill-row-requires
+    add-i
     loop-less
     loop-again
     same-length

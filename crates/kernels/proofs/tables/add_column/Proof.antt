@@ -10,7 +10,7 @@ use Rattle.kernels.proofs.tables.add_column.Statement.{statement}
 use Rattle.kernels.proofs.tables.add_column.Tie as tie
 
 abbrev Inv-loop : tie.InvT-loop
-Inv-loop table₀ half part tile m₀ table m = (m ≤ half) × Raised half m part table₀ table
+Inv-loop table₀ half part tile m₀ table m = (m ≤ half) × Raised 64 half m part table₀ table
 
 abbrev μ-loop : tie.MeasureT-loop
 μ-loop table₀ half part tile m₀ table m = half - m
@@ -22,7 +22,7 @@ add-part-requires : tie.Need-add-part-requires Inv-loop μ-loop
 add-part-requires c κs = search needs
 
 loop-holds : tie.Need-loop-holds Inv-loop μ-loop
-loop-holds c = (omega arith, raised-none _ _ _)
+loop-holds c = (omega arith, raised-none _ _ _ _)
 
 add-set-sum : tie.Need-add-set-sum Inv-loop μ-loop
 add-set-sum c = search needs
@@ -44,7 +44,7 @@ loop-again c =
     let s = c .before .before .before .before .before .before .before .before .before .before .before .before in
     let l = c .before .before .before .before .before .before .loop in (
       omega arith,
-      raised-more (s .args .half) (now (s .args .part)) (now (s .args .table)) (s .pre .0) (s .pre .1) (l .m) (l .table) _ _ (omega arith)
+      raised-more 64 32 (s .args .half) (now (s .args .part)) (now (s .args .table)) (s .pre .0) (omega arith) (l .m) (l .table) _ _ (omega arith)
           (c .before .before .before .before .before .before .before .before .add-part .ensures) (c .before .before .set-sum .ensures) (l .inv .1),
     )
 
@@ -55,7 +55,7 @@ returns : tie.Need-returns Inv-loop μ-loop
 returns c =
     let l = c .before .loop in
     let s = c .before .before .before .before .before .before .before .args in
-    subst (λ (t : ℕ). Raised (s .half) t (now (s .part)) (now (s .table)) (l .table)) (omega arith) (l .inv .1)
+    subst (λ (t : ℕ). Raised 64 (s .half) t (now (s .part)) (now (s .table)) (l .table)) (omega arith) (l .inv .1)
 
 pub add-column-spec : {M : Type 1} → statement M
 add-column-spec =

@@ -4,7 +4,7 @@ use Prim.Native.Nat.{_-_, _≤_}
 use native.Mathlib.Omega.{arith}
 use borrow.Author.Needs.{needs}
 use lib.Bits.{bitXor}
-use lib.ListN.{getD}
+use lib.ListN.{length, getD}
 use Rattle.base.specs.Parts.{Filled}
 use Rattle.base.proofs.Filled.{filled-none, filled-more, filled-all}
 use Rattle.field.specs.Field.{add}
@@ -13,10 +13,10 @@ use Rattle.kernels.proofs.tables.add_tile.Statement.{statement}
 use Rattle.kernels.proofs.tables.add_tile.Tie as tie
 
 abbrev Inv-loop : tie.InvT-loop
-Inv-loop x₀ y p₀ x p = (p ≤ 64) × Filled (λ q. add (getD x₀ q 0) (getD y q 0)) p x₀ x
+Inv-loop x₀ y p₀ x p = (p ≤ length x₀) × Filled (λ q. add (getD x₀ q 0) (getD y q 0)) p x₀ x
 
 abbrev μ-loop : tie.MeasureT-loop
-μ-loop x₀ y p₀ x p = 64 - p
+μ-loop x₀ y p₀ x p = length x₀ - p
 
 loop-holds : tie.Need-loop-holds Inv-loop μ-loop
 loop-holds c = (omega arith, filled-none _ _)
@@ -25,7 +25,7 @@ slice-read-x : tie.Need-slice-read-x Inv-loop μ-loop
 slice-read-x c = omega (arith, c .before .before .loop .inv .1 .same)
 
 shared-slice-read-x : tie.Need-shared-slice-read-x Inv-loop μ-loop
-shared-slice-read-x c = search needs
+shared-slice-read-x c = omega (arith, c .before .before .before .loop .inv .1 .same)
 
 slice-write-x : tie.Need-slice-write-x Inv-loop μ-loop
 slice-write-x c = omega (arith, c .before .before .before .loop .inv .1 .same)
@@ -34,21 +34,21 @@ add-p : tie.Need-add-p Inv-loop μ-loop
 add-p c = search needs
 
 loop-less : tie.Need-loop-less Inv-loop μ-loop
-loop-less c = search needs
+loop-less c = omega (arith, c .before .before .before .loop .inv .1 .same)
 
 loop-again : tie.Need-loop-again Inv-loop μ-loop
 unfolding add
 loop-again c =
     let l = c .before .before .before .loop in
     let s = l .inv .1 in
-    (omega arith, filled-more _ (l .p) _ (l .x) _ (omega (arith, s .same)) (ap₂ bitXor (s .rest (l .p) (omega arith)) refl) s)
+    (omega (arith, s .same), filled-more _ (l .p) _ (l .x) _ (omega (arith, s .same)) (ap₂ bitXor (s .rest (l .p) (omega arith)) refl) s)
 
 same-length : tie.Need-same-length Inv-loop μ-loop
 same-length c = c .before .loop .inv .1 .same
 
 returns : tie.Need-returns Inv-loop μ-loop
 unfolding plus
-returns c = filled-all _ _ _ _ (omega arith) (c .before .loop .inv .1)
+returns c = filled-all _ _ _ _ (omega (arith, c .before .loop .inv .1 .same)) (c .before .loop .inv .1)
 
 pub add-tile-spec : {M : Type 1} → statement M
 add-tile-spec =

@@ -1,5 +1,5 @@
 -- After each turn the table has the sums over the columns from t on. Assumes nothing.
-use mathlib.Core.Path.{_≡_, sym, ap, _∙_, subst⁻¹}
+use mathlib.Core.Path.{_≡_, refl, sym, ap, _∙_, subst⁻¹}
 use Prim.Native.Nat.{ℕ, suc, _+_, _-_, _*_, _^_, _≤_}
 use denote.Ref.{now}
 use native.Mathlib.Nat.{pow-suc}
@@ -7,15 +7,16 @@ use native.Mathlib.Omega.{arith}
 use borrow.Author.Needs.{needs}
 use lib.ListN.{length, getD}
 use lib.Pow.{pow-mono}
+use Rattle.base.specs.Parts.{putBlock}
 use Rattle.kernels.specs.Tiling.{tileAt, Chosen}
 use Rattle.kernels.proofs.Choices.{stretch-ends, stretch-tile, tile-byte, chosen-none, chosen-more, chosen-all}
 use Rattle.kernels.proofs.tables.fill_group.Statement.{statement}
 use Rattle.kernels.proofs.tables.fill_group.Tie as tie
-use Rattle.kernels.proofs.Stretches.{stretch}
+use Rattle.kernels.proofs.Stretches.{stretch, length-stretch}
 
 abbrev Inv-loop : tie.InvT-loop
 Inv-loop table₀ b at w src places t₀ half₀ table t half =
-    (t ≤ length places) × (half ≡ 2 ^ (length places - t)) × Chosen w (length places - t) (λ k. tileAt b at src places (t + k)) table
+    (t ≤ length places) × (half ≡ 2 ^ (length places - t)) × Chosen 64 w (length places - t) (λ k. tileAt b at src places (t + k)) table₀ table
 
 abbrev μ-loop : tie.MeasureT-loop
 μ-loop table₀ b at w src places t₀ half₀ table t half = t
@@ -32,15 +33,21 @@ part-clear-end c = search needs
 clear-requires : tie.Need-clear-requires Inv-loop μ-loop
 clear-requires c κs = search needs
 
+-- the table of no columns
+module _ (c : tie.After-clear Inv-loop μ-loop) where
+  none : length (now (c .before .before .before .before .before .args .places)) - length (now (c .before .before .before .before .before .args .places)) ≡ 0
+  none = omega arith
+
+  cleared : Chosen 64 (c .before .before .before .before .before .args .w) (length (now (c .before .before .before .before .before .args .places)) - length (now (c .before .before .before .before .before .args .places))) (λ k. tileAt (c .before .before .before .before .before .args .b) (c .before .before .before .before .before .args .at) (now (c .before .before .before .before .before .args .src)) (now (c .before .before .before .before .before .args .places)) (length (now (c .before .before .before .before .before .args .places)) + k)) (now (c .before .before .before .before .before .args .table)) (putBlock 64 0 (now (c .before .before .before .before .before .args .table)) (c .clear .last .0))
+  cleared =
+      let s = c .before .before .before .before .before in
+      chosen-none 64 _ (s .pre .1 .0 .1) (tileAt (s .args .b) (s .args .at) (now (s .args .src)) (now (s .args .places))) (now (s .args .table)) 32 (length (now (s .args .places))) _ _ none (omega arith) (s .pre .1 .1 .1) (c .clear .ensures)
+
 loop-holds : tie.Need-loop-holds Inv-loop μ-loop
 loop-holds c =
-    let s = c .before .before .before .before .before .before .before in
-    let none : length (now (s .args .places)) - length (now (s .args .places)) ≡ 0 = omega arith in
-    let x = tileAt (s .args .b) (s .args .at) (now (s .args .src)) (now (s .args .places)) in (
-      omega arith,
-      ap (λ (k : ℕ). 2 ^ k) (sym none),
-      chosen-none _ (s .pre .1 .0 .1) x (length (now (s .args .places))) _ (now (s .args .table)) _ none (s .pre .1 .1 .1) (c .before .before .clear .ensures),
-    )
+    let none : length (now (c .before .before .before .before .before .before .before .args .places)) - length (now (c .before .before .before .before .before .before .before .args .places)) ≡ 0 = omega arith in
+    let s = cleared (c .before .before) in
+    (omega arith, ap (λ (k : ℕ). 2 ^ k) (sym none), record { same = refl; entry = s .entry })
 
 sub-wide : tie.Need-sub-wide Inv-loop μ-loop
 sub-wide c = search needs
@@ -85,7 +92,11 @@ part-add-column-end : tie.Need-part-add-column-end Inv-loop μ-loop
 part-add-column-end c = inside (c .before)
 
 add-column-requires : tie.Need-add-column-requires Inv-loop μ-loop
-add-column-requires c κs = (c .before .before .before .before .before .loop .inv .2 .size, halves (c .before .before))
+add-column-requires c κs =
+    let l = c .before .before .before .before .before .loop in
+    let s = c .before .before .before .before .before .before .before .before .before .before .before .before .before in
+    let a = c .before .before in
+    (l .inv .2 .same ∙ cleared (c .before .before .before .before .before .before .before .before) .same ∙ s .pre .1 .1 .1, halves a, omega (arith, length-stretch (a .wide .result * s .args .b + s .args .at) (s .args .w) (now (s .args .src)) (inside a)))
 
 mul-half : tie.Need-mul-half Inv-loop μ-loop
 mul-half c = omega (arith, halves (c .before .before .before .before .before))
@@ -104,7 +115,7 @@ loop-again c =
     let more : length (now (s .args .places)) - (l .t - 1) ≡ suc k = omega arith in (
       omega arith,
       ap (λ (x : ℕ). x * 2) (l .inv .1) ∙ sym (ap (λ (x : ℕ). 2 ^ x) more ∙ pow-suc 2 k),
-      chosen-more (s .args .w) (s .pre .1 .0 .1) (tileAt (s .args .b) (s .args .at) (now (s .args .src)) (now (s .args .places)))
+      chosen-more 64 (s .args .w) (s .pre .1 .0 .1) (tileAt (s .args .b) (s .args .at) (now (s .args .src)) (now (s .args .places))) _
           (tile-byte (s .args .b) (s .args .at) (now (s .args .src)) (now (s .args .places)) (λ i. omega (arith, c .before .before .before .before .before .before .before .before .before .before .before .before .before .before .shared-slice-known .given i)))
           (l .t) k (l .half) _ (l .table) _ (omega arith) (l .inv .1)
           (λ p hp. ap (λ (x : ℕ). getD (stretch (x * s .args .b + s .args .at) (s .args .w) (now (s .args .src))) p 0) (c .before .before .before .before .before .wide .ensures) ∙ stretch-tile (s .args .b) (s .args .at) (s .args .w) (now (s .args .src)) (now (s .args .places)) (l .t - 1) p hp)
@@ -112,13 +123,14 @@ loop-again c =
     )
 
 same-length : tie.Need-same-length Inv-loop μ-loop
-same-length c = omega (arith, c .before .loop .inv .2 .size)
+same-length c = c .before .loop .inv .2 .same ∙ cleared (c .before .before .before .before) .same
 
 returns : tie.Need-returns Inv-loop μ-loop
 returns c =
     let s = c .before .before .before .before .before .before .before .before .before in
     let l = c .before .loop in
-    chosen-all (s .args .w) (s .pre .1 .0 .1) _ (l .t) _ (l .table) (omega arith) (l .inv .2)
+    let r = chosen-all 64 (s .args .w) (s .pre .1 .0 .1) _ _ (l .t) _ (l .table) (omega arith) (l .inv .2) in
+    record { same = r .same ∙ cleared (c .before .before .before .before) .same; entry = r .entry }
 
 pub fill-group-spec : {M : Type 1} → statement M
 fill-group-spec =

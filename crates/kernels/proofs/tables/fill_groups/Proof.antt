@@ -7,43 +7,46 @@ use borrow.Author.Needs.{needs}
 use lib.ListN.{length}
 use Rattle.kernels.specs.Tiling.{columns, Tabled}
 use Rattle.kernels.proofs.Choices.{group-inside, tabled-none, tabled-more}
-use Rattle.kernels.proofs.Digits.{columns-most}
+use Rattle.kernels.proofs.Digits.{columns-most, columns-are}
 use Rattle.kernels.proofs.Stretches.{length-stretch}
 use Rattle.kernels.proofs.tables.fill_groups.Statement.{statement}
 use Rattle.kernels.proofs.tables.fill_groups.Tie as tie
 
 abbrev Inv-loop : tie.InvT-loop
-Inv-loop table₀ groups b at w src places g₀ table g = (g ≤ groups) × Tabled b at w src places g table₀ table
+Inv-loop table₀ groups size b at w src places g₀ table g = (g ≤ groups) × Tabled 64 b at w size src places g table₀ table
 
 abbrev μ-loop : tie.MeasureT-loop
-μ-loop table₀ groups b at w src places g₀ table g = groups - g
+μ-loop table₀ groups size b at w src places g₀ table g = groups - g
 
 loop-holds : tie.Need-loop-holds Inv-loop μ-loop
-loop-holds c = (omega arith, tabled-none _ _ _ _ _ _)
+loop-holds c = (omega arith, tabled-none _ _ _ _ _ _ _)
+
+-- a group begins within the places
+begins : (c : tie.In-loop Inv-loop μ-loop) → c .before .loop .g * c .before .before .before .before .before .args .size ≤ length (now (c .before .before .before .before .before .args .places))
+begins c = c .before .before .before .before .before .pre .1 .1 .0 .begins (c .before .loop .g) (omega arith)
 
 mul-j : tie.Need-mul-j Inv-loop μ-loop
-mul-j c = search needs
+mul-j c = omega (arith, begins c)
 
-sub-group-size : tie.Need-sub-group-size Inv-loop μ-loop
-sub-group-size c = search needs
+sub-shorter : tie.Need-sub-shorter Inv-loop μ-loop
+sub-shorter c = begins c
 
-group-size-requires : tie.Need-group-size-requires Inv-loop μ-loop
-group-size-requires c κs = search needs
+shorter-requires : tie.Need-shorter-requires Inv-loop μ-loop
+shorter-requires c κs = search needs
 
 -- the group's places end within places, and its table within the table
-module _ (c : tie.After-group-size Inv-loop μ-loop) where
-  places-end : c .before .before .loop .g * 4 + c .group-size .result ≤ length (now (c .before .before .before .before .before .before .args .places))
-  places-end = omega arith
+module _ (c : tie.After-shorter Inv-loop μ-loop) where
+  places-end : c .before .before .loop .g * c .before .before .before .before .before .before .args .size + c .shorter .result ≤ length (now (c .before .before .before .before .before .before .args .places))
+  places-end = omega (arith, begins (c .before))
 
-  room : c .before .before .loop .g * 1024 + 2048 ≤ length (c .before .before .loop .table)
-  room = omega (arith, c .before .before .loop .inv .1 .same)
+  room : c .before .before .loop .g * 2048 + 2048 ≤ length (c .before .before .loop .table)
+  room = omega (arith, c .before .before .before .before .before .before .pre .1 .1 .1, c .before .before .loop .inv .1 .same)
 
-  count : c .group-size .result ≡ columns (length (now (c .before .before .before .before .before .before .args .places))) (c .before .before .loop .g)
-  unfolding columns
-  count = c .group-size .ensures
+  count : c .shorter .result ≡ columns (c .before .before .before .before .before .before .args .size) (length (now (c .before .before .before .before .before .before .args .places))) (c .before .before .loop .g)
+  count = columns-are _ _ _ _ (c .shorter .ensures .0) (c .shorter .ensures .1 .0) (c .shorter .ensures .1 .1)
 
 add-end : tie.Need-add-end Inv-loop μ-loop
-add-end c = search needs
+add-end c = omega (arith, places-end c)
 
 mul-first : tie.Need-mul-first Inv-loop μ-loop
 mul-first c = omega (arith, room c)
@@ -73,11 +76,11 @@ fill-group-requires : tie.Need-fill-group-requires Inv-loop μ-loop
 fill-group-requires c κs =
     let s = c .before .before .before .before .before .before .before .before in
     let l = c .before .before .before .before .loop in
-    let r = c .before .before .group-size .result in (
-      group-inside (s .args .b) (l .g * 4) r _ (now (s .args .places)) (places-end (c .before .before)) (s .pre .0),
+    let r = c .before .before .shorter .result in (
+      group-inside (s .args .b) (l .g * s .args .size) r _ (now (s .args .places)) (places-end (c .before .before)) (s .pre .0),
       (
         s .pre .1 .0,
-        (subst⁻¹ (λ (k : ℕ). k ≤ 5) (length-stretch (l .g * 4) r (now (s .args .places)) (places-end (c .before .before)) ∙ count (c .before .before)) (columns-most _ _), length-stretch (l .g * 1024) 2048 (l .table) (room (c .before .before))),
+        (subst⁻¹ (λ (k : ℕ). k ≤ 5) (length-stretch (l .g * s .args .size) r (now (s .args .places)) (places-end (c .before .before)) ∙ count (c .before .before)) (columns-most (s .pre .1 .1 .0) _), length-stretch (l .g * 2048) 2048 (l .table) (room (c .before .before))),
       ),
     )
 
@@ -94,7 +97,8 @@ loop-again : tie.Need-loop-again Inv-loop μ-loop
 loop-again c =
     let a = c .before .before .before .before .before in
     let l = c .before .before .before .before .before .before .before .loop in
-    (omega arith, tabled-more _ _ _ _ _ _ (l .g) (a .group-size .result) (l .table) _ (room a) (omega arith) (omega arith) (places-end a) (count a) (c .before .before .fill-group .ensures) (l .inv .1))
+    let s = c .before .before .before .before .before .before .before .before .before .before .before in
+    (omega arith, tabled-more _ _ _ _ _ _ _ (s .pre .1 .1 .0) (l .g) (a .shorter .result) (l .table) _ (room a) (omega arith) (places-end a) (count a) (length-stretch (l .g * 2048) 2048 (l .table) (room a)) (c .before .before .fill-group .ensures) (l .inv .1))
 
 same-length : tie.Need-same-length Inv-loop μ-loop
 same-length c = c .before .loop .inv .1 .same
@@ -103,7 +107,7 @@ returns : tie.Need-returns Inv-loop μ-loop
 returns c =
     let l = c .before .loop in
     let s = c .before .before .before .before .before .args in
-    subst (λ (t : ℕ). Tabled (s .b) (s .at) (s .w) (now (s .src)) (now (s .places)) t (now (s .table)) (l .table)) (omega arith) (l .inv .1)
+    subst (λ (t : ℕ). Tabled 64 (s .b) (s .at) (s .w) (s .size) (now (s .src)) (now (s .places)) t (now (s .table)) (l .table)) (omega arith) (l .inv .1)
 
 pub fill-groups-spec : {M : Type 1} → statement M
 fill-groups-spec =
@@ -113,8 +117,8 @@ fill-groups-spec =
     μ-loop
     loop-holds
     mul-j
-    sub-group-size
-    group-size-requires
+    sub-shorter
+    shorter-requires
     add-end
     mul-first
     add-last

@@ -12,7 +12,7 @@ use Rattle.kernels.proofs.tiles.add_tile_rows.Statement.{statement}
 use Rattle.kernels.proofs.tiles.add_tile_rows.Tie as tie
 
 abbrev Inv-loop : tie.InvT-loop
-Inv-loop out₀ targets b at w table groups picks i₀ out i = (i ≤ length targets) × Spanned b at w targets (λ k. byBits groups table picks k 8) i out₀ out
+Inv-loop out₀ targets b at w table groups picks i₀ out i = (i ≤ length targets) × Spanned b at w targets (λ k. byBits 64 groups table picks k 8) i out₀ out
 
 abbrev μ-loop : tie.MeasureT-loop
 μ-loop out₀ targets b at w table groups picks i₀ out i = length targets - i
@@ -53,7 +53,9 @@ part-add-row-end : tie.Need-part-add-row-end Inv-loop μ-loop
 part-add-row-end c = inside c
 
 add-row-requires : tie.Need-add-row-requires Inv-loop μ-loop
-add-row-requires c κs = (omega arith, λ t ht. c .before .before .before .before .before .before .before .before .before .pre .1 .1 (c .before .before .before .before .loop .i) t (omega arith) ht)
+add-row-requires c κs =
+    let s = c .before .before .before .before .before .before .before .before .before in
+    ((s .pre .1 .1 .0 .0, omega arith), λ t ht. s .pre .1 .1 .1 (c .before .before .before .before .loop .i) t (omega arith) ht)
 
 add-i : tie.Need-add-i Inv-loop μ-loop
 add-i c = search needs
@@ -66,7 +68,7 @@ loop-again c =
     let s = c .before .before .before .before .before .before .before .before .before .before .before .before in
     let a = c .before .before .before .before in
     let l = c .before .before .before .before .before .before .before .loop in
-    (omega arith, row-spanned _ _ _ _ _ _ (s .pre .1 .0 .0) (s .pre .1 .0 .1) (l .i) (a .wide .result) (l .out) _ (a .wide .ensures) (inside a) (c .before .before .add-row .ensures) (l .inv .1))
+    (omega arith, row-spanned _ _ _ _ _ _ (s .pre .1 .0 .0) 64 (s .pre .1 .0 .1) (l .i) (a .wide .result) (l .out) _ (a .wide .ensures) (inside a) (c .before .before .add-row .ensures) (l .inv .1))
 
 same-length : tie.Need-same-length Inv-loop μ-loop
 same-length c = c .before .loop .inv .1 .same
@@ -75,7 +77,7 @@ returns : tie.Need-returns Inv-loop μ-loop
 returns c =
     let l = c .before .loop in
     let s = c .before .before .before .before .before .before .args in
-    subst (λ (t : ℕ). Spanned (s .b) (s .at) (s .w) (now (s .targets)) (λ k. byBits (s .groups) (now (s .table)) (now (s .picks)) k 8) t (now (s .out)) (l .out)) (omega arith) (l .inv .1)
+    subst (λ (t : ℕ). Spanned (s .b) (s .at) (s .w) (now (s .targets)) (λ k. byBits 64 (s .groups) (now (s .table)) (now (s .picks)) k 8) t (now (s .out)) (l .out)) (omega arith) (l .inv .1)
 
 pub add-tile-rows-spec : {M : Type 1} → statement M
 add-tile-rows-spec =

@@ -9,8 +9,8 @@ use Rattle.kernels.proofs.tiles.add_tiled.Statement.{statement}
 use Rattle.kernels.proofs.tiles.add_tiled.Tie as tie
 
 -- the table with its first tile doubled
-table-length : (first : List ℕ) → length first ≡ 64 → length (first ++ drop 64 (replicate 9216 0)) ≡ 9216
-table-length first e = length-append first _ ∙ ap (λ (n : ℕ). n + length (drop {A = ℕ} 64 (replicate 9216 0))) e
+table-length : (first : List ℕ) → length first ≡ 64 → length (first ++ drop 64 (replicate 14336 0)) ≡ 14336
+table-length first e = length-append first _ ∙ ap (λ (n : ℕ). n + length (drop {A = ℕ} 64 (replicate 14336 0))) e
 
 array-borrow-prefix-table : tie.Need-array-borrow-prefix-table
 array-borrow-prefix-table c = search needs
@@ -30,7 +30,7 @@ slice-aggregate-add-tiles-2 c = search needs
 add-tiles-requires : tie.Need-add-tiles-requires
 add-tiles-requires c κs =
     let s = c .before .before .before .before .before .before .before .before .before .before .before in
-    (s .pre .0, (s .pre .1, (omega (arith, table-length (c .before .before .before .before .double-tile .last .0) (c .before .before .before .before .double-tile .kept .0)), refl)))
+    (s .pre .0, (s .pre .1, (omega (arith, table-length (c .before .before .before .before .double-tile .last .0) (c .before .before .before .before .double-tile .kept .0)), omega arith)))
 
 same-length : tie.Need-same-length
 same-length c = search needs

@@ -1,0 +1,100 @@
+-- After i turns the first i rows have their span added to their targets. Assumes nothing.
+use mathlib.Core.Path.{subst, subst⁻¹}
+use Prim.Native.Nat.{ℕ, _+_, _-_, _*_, _≤_}
+use denote.Ref.{now}
+use native.Mathlib.Omega.{arith}
+use borrow.Author.Needs.{needs}
+use lib.ListN.{length}
+use Rattle.kernels.specs.Tiling.{byBits, Spanned}
+use Rattle.kernels.proofs.Choices.{stretch-ends}
+use Rattle.kernels.proofs.Spans.{spanned-none, row-spanned}
+use Rattle.kernels.proofs.short.add_short_rows.Statement.{statement}
+use Rattle.kernels.proofs.short.add_short_rows.Tie as tie
+
+abbrev Inv-loop : tie.InvT-loop
+Inv-loop out₀ targets b at w table picks i₀ out i = (i ≤ length targets) × Spanned b at w targets (λ k. byBits 16 1 table picks k 8) i out₀ out
+
+abbrev μ-loop : tie.MeasureT-loop
+μ-loop out₀ targets b at w table picks i₀ out i = length targets - i
+
+loop-holds : tie.Need-loop-holds Inv-loop μ-loop
+loop-holds c = (omega arith, spanned-none _ _ _ _ _ _)
+
+shared-slice-read-wide : tie.Need-shared-slice-read-wide Inv-loop μ-loop
+shared-slice-read-wide c = search needs
+
+wide-requires : tie.Need-wide-requires Inv-loop μ-loop
+wide-requires c κs = search needs
+
+-- the span ends within out
+inside : (c : tie.After-wide Inv-loop μ-loop) → c .wide .result * c .before .before .before .before .before .before .before .before .args .b + c .before .before .before .before .before .before .before .before .args .at + c .before .before .before .before .before .before .before .before .args .w ≤ length (c .before .before .before .loop .out)
+inside c =
+    let s = c .before .before .before .before .before .before .before .before in
+    let l = c .before .before .before .loop in
+    subst⁻¹ (λ (k : ℕ). k * s .args .b + s .args .at + s .args .w ≤ length (l .out)) (c .wide .ensures)
+    (omega (arith, stretch-ends (s .args .b) (s .args .at) (s .args .w) (l .i) (length (now (s .args .out))) (now (s .args .targets)) (s .pre .1 .0 .0) (omega arith) (s .pre .0), l .inv .1 .same))
+
+mul-start : tie.Need-mul-start Inv-loop μ-loop
+mul-start c = omega (arith, inside c)
+
+add-start : tie.Need-add-start Inv-loop μ-loop
+add-start c = omega (arith, inside c)
+
+add-end : tie.Need-add-end Inv-loop μ-loop
+add-end c = omega (arith, inside c)
+
+sub-add-short-row : tie.Need-sub-add-short-row Inv-loop μ-loop
+sub-add-short-row c = search needs
+
+part-add-short-row-start : tie.Need-part-add-short-row-start Inv-loop μ-loop
+part-add-short-row-start c = search needs
+
+part-add-short-row-end : tie.Need-part-add-short-row-end Inv-loop μ-loop
+part-add-short-row-end c = inside c
+
+add-short-row-requires : tie.Need-add-short-row-requires Inv-loop μ-loop
+add-short-row-requires c κs = λ t ht. c .before .before .before .before .before .before .before .before .before .pre .1 .1 (c .before .before .before .before .loop .i) t (omega arith) ht
+
+add-i : tie.Need-add-i Inv-loop μ-loop
+add-i c = search needs
+
+loop-less : tie.Need-loop-less Inv-loop μ-loop
+loop-less c = search needs
+
+loop-again : tie.Need-loop-again Inv-loop μ-loop
+loop-again c =
+    let s = c .before .before .before .before .before .before .before .before .before .before .before .before in
+    let a = c .before .before .before .before in
+    let l = c .before .before .before .before .before .before .before .loop in
+    (omega arith, row-spanned _ _ _ _ _ _ (s .pre .1 .0 .0) 16 (s .pre .1 .0 .1) (l .i) (a .wide .result) (l .out) _ (a .wide .ensures) (inside a) (c .before .before .add-short-row .ensures) (l .inv .1))
+
+same-length : tie.Need-same-length Inv-loop μ-loop
+same-length c = c .before .loop .inv .1 .same
+
+returns : tie.Need-returns Inv-loop μ-loop
+returns c =
+    let l = c .before .loop in
+    let s = c .before .before .before .before .before .before .args in
+    subst (λ (t : ℕ). Spanned (s .b) (s .at) (s .w) (now (s .targets)) (λ k. byBits 16 1 (now (s .table)) (now (s .picks)) k 8) t (now (s .out)) (l .out)) (omega arith) (l .inv .1)
+
+pub add-short-rows-spec : {M : Type 1} → statement M
+add-short-rows-spec =
+    tie.close
+    (tie.spec
+    Inv-loop
+    μ-loop
+    loop-holds
+    shared-slice-read-wide
+    wide-requires
+    mul-start
+    add-start
+    add-end
+    sub-add-short-row
+    part-add-short-row-start
+    part-add-short-row-end
+    add-short-row-requires
+    add-i
+    loop-less
+    loop-again
+    same-length
+    returns)

@@ -1,0 +1,51 @@
+-- Zeros behind the copy of src add nothing. Assumes nothing.
+use mathlib.Core.Path.{ap, _∙_}
+use denote.Ref.{now}
+use borrow.Author.Needs.{needs}
+use Rattle.blocks.specs.Bytes.{plus}
+use Rattle.kernels.proofs.Choices.{plus-copy}
+use Rattle.kernels.proofs.tables.add_part.Statement.{statement}
+use Rattle.kernels.proofs.tables.add_part.Tie as tie
+
+add-tile-requires : tie.Need-add-tile-requires
+add-tile-requires c κs = search needs
+
+same-length : tie.Need-same-length
+same-length c = search needs
+
+returns : tie.Need-returns
+returns c = search needs
+
+slice-aggregate-copy-block : tie.Need-slice-aggregate-copy-block
+slice-aggregate-copy-block c = search needs
+
+copy-block-requires : tie.Need-copy-block-requires
+copy-block-requires c κs = search needs
+
+slice-aggregate-add-block : tie.Need-slice-aggregate-add-block
+slice-aggregate-add-block c = search needs
+
+add-block-requires : tie.Need-add-block-requires
+add-block-requires c κs = search needs
+
+same-length-2 : tie.Need-same-length-2
+same-length-2 c = search needs
+
+returns-2 : tie.Need-returns-2
+returns-2 c =
+    c .before .before .add-block .ensures
+    ∙ plus-copy 64 _ _ _ (c .before .before .before .before .before .before .before .before .before .before .before .pre) (c .before .before .before .before .before .before .copy-block .ensures)
+
+pub add-part-spec : {M : Type 1} → statement M
+add-part-spec =
+    tie.close
+    (tie.spec
+    add-tile-requires
+    same-length
+    returns
+    slice-aggregate-copy-block
+    copy-block-requires
+    slice-aggregate-add-block
+    add-block-requires
+    same-length-2
+    returns-2)

@@ -1,0 +1,100 @@
+-- The pick stands within the picks, and names an entry that the table has. Assumes nothing.
+use mathlib.Core.Path.{_≡_, refl, sym, ap, _∙_, subst⁻¹}
+use Prim.Native.Nat.{ℕ, _+_, _*_, _≤_, _<_}
+use denote.Ref.{now}
+use native.Mathlib.Omega.{arith}
+use borrow.Author.Needs.{needs}
+use lib.ListN.{length}
+use Rattle.base.specs.Seq.{cell}
+use Rattle.base.specs.Parts.{partOf}
+use Rattle.base.proofs.Parts.{length-partOf}
+use Rattle.blocks.specs.Bytes.{plus}
+use Rattle.kernels.proofs.tiles.add_entry.Statement.{statement}
+use Rattle.kernels.proofs.tiles.add_entry.Tie as tie
+
+returns : tie.Need-returns
+returns c = record { inside = λ lt. absurd (omega arith); beyond = λ le. refl }
+
+-- the pick stands within the picks
+inside : (c : tie.Else1) → c .before .before .before .before .args .g * 256 + c .before .before .before .before .args .q < length (now (c .before .before .before .before .args .picks))
+inside c = c .before .before .before .before .pre .1 .place (c .before .before .before .before .args .g) (omega arith)
+
+mul-n : tie.Need-mul-n
+mul-n c = omega (arith, inside c)
+
+mul-wide : tie.Need-mul-wide
+mul-wide c = omega (arith, inside c)
+
+add-wide : tie.Need-add-wide
+add-wide c = omega (arith, inside c)
+
+shared-slice-read-wide : tie.Need-shared-slice-read-wide
+shared-slice-read-wide c = inside (c .before)
+
+wide-requires : tie.Need-wide-requires
+wide-requires c κs = search needs
+
+-- it names an entry that the table has
+module _ (c : tie.After-wide) where
+  pick-is : c .wide .result ≡ cell 256 (now (c .before .before .before .before .before .before .args .picks)) (c .before .before .before .before .before .before .args .g) (c .before .before .before .before .before .before .args .q)
+  unfolding cell
+  pick-is = c .wide .ensures
+
+  room : (c .before .before .before .before .before .before .args .g * 32 + c .wide .result) * 64 + 64 ≤ length (now (c .before .before .before .before .before .before .args .table))
+  room =
+      let s = c .before .before .before .before .before .before in
+      subst⁻¹ (λ (k : ℕ). (s .args .g * 32 + k) * 64 + 64 ≤ length (now (s .args .table))) pick-is (s .pre .1 .entry (s .args .g) (omega arith))
+
+add-n : tie.Need-add-n
+add-n c = omega (arith, room c)
+
+mul-at : tie.Need-mul-at
+mul-at c = omega (arith, room c)
+
+add-end : tie.Need-add-end
+add-end c = omega (arith, room c)
+
+sub-add-tile : tie.Need-sub-add-tile
+sub-add-tile c = search needs
+
+part-add-tile-start : tie.Need-part-add-tile-start
+part-add-tile-start c = search needs
+
+part-add-tile-end : tie.Need-part-add-tile-end
+part-add-tile-end c = room (c .before)
+
+add-tile-requires : tie.Need-add-tile-requires
+add-tile-requires c κs =
+    let s = c .before .before .before .before .before .before .before .before in
+    s .pre .0 ∙ sym (length-partOf 64 (s .args .g * 32 + c .before .before .wide .result) (now (s .args .table)) (room (c .before .before)))
+
+same-length : tie.Need-same-length
+same-length c = search needs
+
+returns-2 : tie.Need-returns-2
+returns-2 c =
+    let s = c .before .before .before .before .before .before .before .before .before .before .before in
+    record {
+      inside = λ lt. c .before .before .add-tile .ensures ∙ ap (λ (k : ℕ). plus (now (s .args .sum)) (partOf 64 (s .args .g * 32 + k) (now (s .args .table)))) (pick-is (c .before .before .before .before .before));
+      beyond = λ le. absurd (omega arith);
+    }
+
+pub add-entry-spec : {M : Type 1} → statement M
+add-entry-spec =
+    tie.close
+    (tie.spec
+    returns
+    mul-n
+    mul-wide
+    add-wide
+    shared-slice-read-wide
+    wide-requires
+    add-n
+    mul-at
+    add-end
+    sub-add-tile
+    part-add-tile-start
+    part-add-tile-end
+    add-tile-requires
+    same-length
+    returns-2)
