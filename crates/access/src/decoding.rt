@@ -7,8 +7,9 @@ use gates::decode_gate;
 use kernels::add_product;
 use params::NodeSet;
 use params::Params;
-ghost use mathlib.Core.Path.{_≡_};
+ghost use Prim.Native.Nat.{_*_, _≤_};
 ghost use lib.ListN.{length};
+ghost use Rattle.params.specs.Nodes.{size};
 ghost use Rattle.gates.specs.Valid.{DecodeAccepted};
 ghost use Rattle.code.specs.Calls.{DecodePost, Decoded};
 
@@ -24,7 +25,29 @@ pub fn decode(a: Params, codeword: &[u8], from: NodeSet, out: &mut [u8]) -> u32
     0
 }
 
+// An accepted call: makes room for the rows that take the blocks read to message and slack, no more than is wanted.
 fn decode_parts(a: Params, codeword: &[u8], from: NodeSet, out: &mut [u8])
+    requires { ⌜ DecodeAccepted a (length (now codeword)) (length (now out)) (from .0) ⌝ }
+    ensures { λ _. ⌜ Decoded a (now (codeword .entry)) (from .0) (now (out .exit)) ⌝ }
+{
+    let q = from.size();
+    if q * q <= 128 {
+        decode_narrow(a, codeword, from, out);
+        return;
+    }
+    decode_wide(a, codeword, from, out);
+}
+
+fn decode_narrow(a: Params, codeword: &[u8], from: NodeSet, out: &mut [u8])
+    requires { ⌜ DecodeAccepted a (length (now codeword)) (length (now out)) (from .0) ⌝ }
+    requires { ⌜ size (from .0) * size (from .0) ≤ 128 ⌝ }
+    ensures { λ _. ⌜ Decoded a (now (codeword .entry)) (from .0) (now (out .exit)) ⌝ }
+{
+    let mut rows = [0u8; 128];
+    decode_within(a, codeword, from, &mut rows, out);
+}
+
+fn decode_wide(a: Params, codeword: &[u8], from: NodeSet, out: &mut [u8])
     requires { ⌜ DecodeAccepted a (length (now codeword)) (length (now out)) (from .0) ⌝ }
     ensures { λ _. ⌜ Decoded a (now (codeword .entry)) (from .0) (now (out .exit)) ⌝ }
 {
@@ -32,10 +55,10 @@ fn decode_parts(a: Params, codeword: &[u8], from: NodeSet, out: &mut [u8])
     decode_within(a, codeword, from, &mut rows, out);
 }
 
-// The same, with room for the rows that take the blocks read to message and slack; the first of them are the message's.
+// The same, with room for the rows; the first of them are the message's.
 fn decode_within(a: Params, codeword: &[u8], from: NodeSet, rows: &mut [u8], out: &mut [u8])
     requires { ⌜ DecodeAccepted a (length (now codeword)) (length (now out)) (from .0) ⌝ }
-    requires { ⌜ length (now rows) ≡ 1024 ⌝ }
+    requires { ⌜ size (from .0) * size (from .0) ≤ length (now rows) ⌝ }
     ensures { λ _. ⌜ Decoded a (now (codeword .entry)) (from .0) (now (out .exit)) ⌝ }
 {
     let k = a.k;

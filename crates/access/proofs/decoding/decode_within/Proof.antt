@@ -1,12 +1,13 @@
 -- The rows take the blocks read to the message. Assumes nothing.
-use mathlib.Core.Path.{_≡_, sym, ap₂, _∙_}
-use Prim.Native.Nat.{_*_, _^_, _≤_, _<_}
+use mathlib.Core.Path.{_≡_, sym, ap₂, _∙_, subst⁻¹}
+use Prim.Native.Nat.{ℕ, _*_, _^_, _≤_, _<_}
 use native.Mathlib.Omega.{arith}
 use borrow.Author.Needs.{needs}
 use denote.Ref.{now}
+use lib.ListN.{length}
 use lib.Seq.{length-take-le}
 use Rattle.coefficients.specs.Coefficients.{placesOf}
-use Rattle.coefficients.proofs.Laws.{size-most, areas-fit, placing-zeros}
+use Rattle.coefficients.proofs.Laws.{size-most, placing-zeros}
 use Rattle.access.proofs.ReadBack.{decoded}
 use Rattle.access.proofs.decoding.decode_within.Statement.{statement}
 use Rattle.access.proofs.decoding.decode_within.Tie as tie
@@ -22,8 +23,8 @@ most : (c : tie.After-size) → c .size .result ≤ 32
 most c = omega (arith, c .size .ensures, size-most (c .before .before .before .before .args .from .0) (word (c .before .before .before .before)))
 
 -- and room for their rows
-area : (c : tie.After-size) → c .size .result * c .size .result ≤ 1024
-area c = areas-fit _ _ (most c) (most c)
+area : (c : tie.After-size) → c .size .result * c .size .result ≤ length (now (c .before .before .before .before .args .rows))
+area c = subst⁻¹ (λ (n : ℕ). n * n ≤ length (now (c .before .before .before .before .args .rows))) (c .size .ensures) (c .before .before .before .before .pre .1)
 
 mul-area : tie.Need-mul-area
 mul-area c = omega (arith, area c)
@@ -39,7 +40,7 @@ places : (c : tie.After-places-of) → c .places-of .last .1 .0 ≡ placesOf (c 
 places c = placing-zeros _ _ (word (c .before .before .before .before .before .before)) (c .places-of .ensures)
 
 slice-relend-prefix-reading-rows : tie.Need-slice-relend-prefix-reading-rows
-slice-relend-prefix-reading-rows c = omega (arith, area (c .before .before .before), c .before .before .before .before .before .before .before .pre .1)
+slice-relend-prefix-reading-rows c = area (c .before .before .before)
 
 slice-aggregate-reading-rows : tie.Need-slice-aggregate-reading-rows
 slice-aggregate-reading-rows c = sym (length-take-le _ (now (c .before .before .before .before .before .before .before .before .args .rows)) (slice-relend-prefix-reading-rows (c .before)))

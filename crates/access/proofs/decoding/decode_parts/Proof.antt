@@ -1,0 +1,51 @@
+-- The test is on the number of coefficients. Assumes nothing.
+use mathlib.Core.Path.{subst}
+use Prim.Native.Nat.{ℕ, _*_, _≤_}
+use native.Mathlib.Omega.{arith}
+use borrow.Author.Needs.{needs}
+use Rattle.coefficients.proofs.Laws.{size-most, areas-fit}
+use Rattle.access.proofs.decoding.decode_parts.Statement.{statement}
+use Rattle.access.proofs.decoding.decode_parts.Tie as tie
+
+size-requires : tie.Need-size-requires
+size-requires c κs = search needs
+
+mul-if1 : tie.Need-mul-if1
+mul-if1 c =
+    let s = c .before .before .before in
+    let most = size-most (s .args .from .0) (omega arith) in
+    omega (arith, areas-fit (c .size .result) (c .size .result) (omega (arith, c .size .ensures, most)) (omega (arith, c .size .ensures, most)))
+
+decode-narrow-requires : tie.Need-decode-narrow-requires
+decode-narrow-requires c κs =
+    let t = c .before in
+    let z = t .before in
+    (z .before .before .before .pre, subst (λ (n : ℕ). n * n ≤ 128) (z .size .ensures) (omega (arith, t .if1 .taken)))
+
+same-length : tie.Need-same-length
+same-length c = search needs
+
+returns : tie.Need-returns
+returns c = search needs
+
+decode-wide-requires : tie.Need-decode-wide-requires
+decode-wide-requires c κs = search needs
+
+same-length-2 : tie.Need-same-length-2
+same-length-2 c = search needs
+
+returns-2 : tie.Need-returns-2
+returns-2 c = search needs
+
+pub decode-parts-spec : {M : Type 1} → statement M
+decode-parts-spec =
+    tie.close
+    (tie.spec
+    size-requires
+    mul-if1
+    decode-narrow-requires
+    same-length
+    returns
+    decode-wide-requires
+    same-length-2
+    returns-2)

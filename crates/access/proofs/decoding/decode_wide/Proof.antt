@@ -1,0 +1,24 @@
+-- At most 32 nodes are read. Assumes nothing.
+use native.Mathlib.Omega.{arith}
+use borrow.Author.Needs.{needs}
+use Rattle.coefficients.proofs.Laws.{size-most, areas-fit}
+use Rattle.access.proofs.decoding.decode_wide.Statement.{statement}
+use Rattle.access.proofs.decoding.decode_wide.Tie as tie
+
+slice-aggregate-decode-within : tie.Need-slice-aggregate-decode-within
+slice-aggregate-decode-within c = search needs
+
+decode-within-requires : tie.Need-decode-within-requires
+decode-within-requires c κs =
+    let s = c .before .before .before .before in
+    (s .pre, areas-fit _ _ (size-most (s .args .from .0) (omega arith)) (size-most (s .args .from .0) (omega arith)))
+
+same-length : tie.Need-same-length
+same-length c = search needs
+
+returns : tie.Need-returns
+returns c = search needs
+
+pub decode-wide-spec : {M : Type 1} → statement M
+decode-wide-spec =
+    tie.close (tie.spec slice-aggregate-decode-within decode-within-requires same-length returns)
