@@ -117,22 +117,23 @@ module _ (t n half : ℕ) (part old : List ℕ) (room : length old ≡ n * t) (f
 
 -- ---- one column more, in front of those that the table has
 
-module _ (t w : ℕ) (wt : w ≤ t) (x : ℕ → ℕ → ℕ) (old : List ℕ) where
-  pub chosen-none : (entries j n : ℕ) (part : List ℕ) → n ≡ 0 → 0 < entries → length old ≡ entries * t → part ≡ replicate (length (partOf t 0 old)) 0
-      → Chosen t w n (λ k. x (j + k)) old (putBlock t 0 old part)
-  unfolding number
-  chosen-none entries j n part none some room e =
-      subst⁻¹ (λ (m : ℕ). Chosen t w m (λ k. x (j + k)) old (putBlock t 0 old part)) none
-      (record {
-        same = putBlock-length t entries 0 old part some (omega arith) full;
-        entry = λ d p hd hp.
-            putBlock-here t entries 0 old part some (omega arith) full p (omega arith) ∙ ap (λ (l : List ℕ). getD l p 0) e ∙ zeros-at (length (partOf t 0 old)) p
-            ∙ sym (sum-zero _);
-      })
-    where
-      full : length part ≡ t
-      full = ap length e ∙ length-replicate {A = ℕ} (length (partOf t 0 old)) 0 ∙ length-partOf t 0 old (omega (arith, mul-le-mul-right t some))
+-- no column yet: the first entry is cleared
+pub chosen-none : (t w : ℕ) (wt : w ≤ t) (x : ℕ → ℕ → ℕ) (entries n : ℕ) (start part : List ℕ) → n ≡ 0 → 0 < entries → length start ≡ entries * t
+    → part ≡ replicate (length (partOf t 0 start)) 0 → Chosen t w n x (putBlock t 0 start part) (putBlock t 0 start part)
+unfolding number
+chosen-none t w wt x entries n start part none some room e =
+    subst⁻¹ (λ (m : ℕ). Chosen t w m x (putBlock t 0 start part) (putBlock t 0 start part)) none
+    (record {
+      same = refl;
+      entry = λ d p hd hp.
+          putBlock-here t entries 0 start part some (omega arith) full p (omega arith) ∙ ap (λ (l : List ℕ). getD l p 0) e ∙ zeros-at (length (partOf t 0 start)) p
+          ∙ sym (sum-zero _);
+    })
+  where
+    full : length part ≡ t
+    full = ap length e ∙ length-replicate {A = ℕ} (length (partOf t 0 start)) 0 ∙ length-partOf t 0 start (omega (arith, mul-le-mul-right t some))
 
+module _ (t w : ℕ) (wt : w ≤ t) (x : ℕ → ℕ → ℕ) (old : List ℕ) where
   -- the entry that digits name: where the first is 0 it is among the lower half, where it is 1 in the upper
   module _ (byte : (k p : ℕ) → IsByte (x k p)) (j k half : ℕ) (part mid new : List ℕ) (pos : 0 < j) (eh : half ≡ 2 ^ k)
       (at : (p : ℕ) → p < w → getD part p 0 ≡ x (j - 1) p) (r : Raised t half half part mid new) (s : Chosen t w k (λ i. x (j + i)) old mid) where

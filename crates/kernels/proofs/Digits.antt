@@ -28,11 +28,6 @@ number-lt (suc m) d h = omega (arith, number-lt m d h, h m, pow-suc 2 m)
 pub number-below : (m n : ℕ) (d : ℕ → ℕ) → ((k : ℕ) → d k < 2) → m ≤ n → number m d < 2 ^ n
 number-below m n d h le = omega (arith, number-lt m d h, pow-mono le)
 
--- the last digit apart
-pub number-last : (m : ℕ) (d : ℕ → ℕ) → number (suc m) d ≡ number m d * 2 + d m
-unfolding number
-number-last m d = omega arith
-
 -- the first digit apart
 pub number-front : (m : ℕ) (d : ℕ → ℕ) → number (suc m) d ≡ d 0 * 2 ^ m + number m (λ k. d (suc k))
 unfolding number

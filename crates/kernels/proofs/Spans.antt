@@ -92,9 +92,9 @@ cell-byte : (stride : ℕ) (coeffs : List ℕ) → Bytes coeffs → (i j : ℕ) 
 unfolding cell
 cell-byte stride coeffs bytes i j = bytes (i * stride + j)
 
-module _ {n groups size : ℕ} (gr : Grouped n groups size) (rows stride : ℕ) (coeffs none picks : List ℕ) (k : Picked rows stride coeffs n groups size none picks) where
+module _ {n groups size : ℕ} (rows stride : ℕ) (coeffs none picks : List ℕ) (k : Picked rows stride coeffs n groups size none picks) where
   -- a pick has as many digits as its group has columns
-  pub pick-below : (m g s i : ℕ) → size ≤ m → g < groups → s < 8 → i < rows → cell 256 picks g (i * 8 + s) < 2 ^ m
+  pick-below : (m g s i : ℕ) → size ≤ m → g < groups → s < 8 → i < rows → cell 256 picks g (i * 8 + s) < 2 ^ m
   unfolding columns
   pick-below m g s i hm hg hs hi =
       subst⁻¹ (λ (x : ℕ). x < 2 ^ m) (k .pick g s i hg hs hi) (number-below (columns size n g) m _ (λ j. bit-lt s _) (omega arith))
@@ -102,9 +102,9 @@ module _ {n groups size : ℕ} (gr : Grouped n groups size) (rows stride : ℕ) 
   -- so it names an entry of a table with room for 2^m entries of the last group
   pub picks-reach : (t m : ℕ) (table : List ℕ) → size ≤ m → ((g : ℕ) → g < groups → g * 256 + rows * 8 ≤ length picks)
       → ((g : ℕ) → g < groups → (g * 32 + 2 ^ m) * t ≤ length table) → (i s : ℕ) → i < rows → s < 8 → Reached t groups (i * 8 + s) table picks
-  picks-reach t m table hm lanes entries i s hi hs =
+  picks-reach t m table hm places entries i s hi hs =
       record {
-        place = λ g hg. omega (arith, lanes g hg);
+        place = λ g hg. omega (arith, places g hg);
         entry = λ g hg. omega (arith, suc-mul (g * 32 + cell 256 picks g (i * 8 + s)) t, mul-le-mul-right t (next g hg), entries g hg);
       }
     where

@@ -29,13 +29,13 @@ word (suc m) f = f 0 + 256 * word m (λ s. f (suc s))
 
 -- ---- groups
 
--- n columns in groups of the given size, the last with those that are left
+-- n columns in groups of the given size, at most five; the last has those that are left
 pub record Grouped (n groups size : ℕ) : Type 0 where
   pub few : size ≤ 5
   pub begins : (g : ℕ) → g < groups → g * size ≤ n
   pub all : n ≤ groups * size
 
--- how many groups n columns make, and how large: as few as can be, and then as small
+-- how many groups n columns make, and how large: as few as can be, but one where there is no column, and then as small
 abbrev pub groupsOf : ℕ → ℕ
 groupsOf n = suc ((n - 1) / 5)
 
@@ -67,7 +67,7 @@ pub record Chosen (t w m : ℕ) (x : ℕ → ℕ → ℕ) (old new : List ℕ) :
   pub same : length new ≡ length old
   pub entry : (d : ℕ → ℕ) (p : ℕ) → ((k : ℕ) → d k < 2) → p < w → cell t new (number m d) p ≡ sum m (λ k. mul (d k) (x k p))
 
--- new has such tables of the first groups, of the w bytes from `at` on of the block at each place. Each has room for 32 entries
+-- new has such tables of so many groups, of the w bytes from `at` on of the block at each place. Each has room for 32 entries
 pub record Tabled (t b at w size : ℕ) (src places : List ℕ) (groups : ℕ) (old new : List ℕ) : Type 0 where
   pub same : length new ≡ length old
   pub entry : (g : ℕ) (d : ℕ → ℕ) (p : ℕ) → g < groups → ((k : ℕ) → d k < 2) → p < w
@@ -80,12 +80,12 @@ pub record Tabled (t b at w size : ℕ) (src places : List ℕ) (groups : ℕ) (
 unfoldable pub pickOf : List ℕ → ℕ → ℕ
 pickOf coeffs s = number (length coeffs) (λ k. bit s (getD coeffs k 0))
 
--- what a half byte x adds to a word of picks: its bits, the highest first
+-- the bits of each half byte x, as the bytes of a word, the highest bit first
 pub record Spread (spreads : List ℕ) : Type 0 where
   pub size : length spreads ≡ 16
   pub each : (x : ℕ) → x < 16 → getD spreads x 0 ≡ word 4 (λ s. x * 2 ^ s / 8 % 2)
 
--- row i of the picks of the first groups is that of the given coefficients; the other rows are as they were
+-- row i of the picks of so many groups is that of the given coefficients; the other rows are as they were
 pub record RowPicked (i size : ℕ) (coeffs : List ℕ) (groups : ℕ) (old new : List ℕ) : Type 0 where
   pub same : length new ≡ length old
   pub done : (g s : ℕ) → g < groups → s < 8
@@ -114,7 +114,7 @@ pub record Stepped (t groups : ℕ) (table picks : List ℕ) (g q : ℕ) (old ne
   pub inside : g < groups → new ≡ plus old (partOf t (g * 32 + cell 256 picks g q) table)
   pub beyond : groups ≤ g → new ≡ old
 
--- new is old plus such a sum
+-- new is old plus the sum of the entries that the picks at place q name
 pub record Gathered (t groups : ℕ) (table picks : List ℕ) (q : ℕ) (old new : List ℕ) : Type 0 where
   pub same : length new ≡ length old
   pub sums : (p : ℕ) → p < t → getD new p 0 ≡ add (getD old p 0) (named t groups table picks q p)
@@ -124,9 +124,9 @@ pub record Reached (t groups q : ℕ) (table picks : List ℕ) : Type 0 where
   pub place : (g : ℕ) → g < groups → g * 256 + q < length picks
   pub entry : (g : ℕ) → g < groups → (g * 32 + cell 256 picks g q) * t + t ≤ length table
 
--- to the w bytes from `at` on of each block the first t rows of f are added that go to it; all else is as it was
-pub record Spanned (b at w : ℕ) (targets : List ℕ) (f : ℕ → ℕ → ℕ) (t : ℕ) (old new : List ℕ) : Type 0 where
+-- to the w bytes from `at` on of each block the first k rows of f are added that go to it; all else is as it was
+pub record Spanned (b at w : ℕ) (targets : List ℕ) (f : ℕ → ℕ → ℕ) (k : ℕ) (old new : List ℕ) : Type 0 where
   pub same : length new ≡ length old
-  pub done : (j p : ℕ) → p < w → cell b new j (at + p) ≡ add (cell b old j (at + p)) (arriving t targets (λ i. f i p) j)
+  pub done : (j p : ℕ) → p < w → cell b new j (at + p) ≡ add (cell b old j (at + p)) (arriving k targets (λ i. f i p) j)
   pub front : (j p : ℕ) → p < at → cell b new j p ≡ cell b old j p
   pub back : (j p : ℕ) → at + w ≤ p → p < b → cell b new j p ≡ cell b old j p

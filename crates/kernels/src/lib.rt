@@ -110,34 +110,24 @@ fn add_fitting(
     requires { ⌜ Fits b stride (now targets) (now places) (length (now src)) (length (now coeffs)) (length (now out)) ⌝ }
     ensures { λ _. ⌜ Added b stride (now (src .entry)) (now (targets .entry)) (now (places .entry)) (now (coeffs .entry)) (now (out .entry)) (now (out .exit)) ⌝ }
 {
-    if prefers_rows(targets.len(), places.len()) {
-        add_rows(out, targets, b, src, places, coeffs, stride);
-        return;
-    }
     if prefers_short(targets.len(), b, places.len()) {
         short::add_short(out, targets, b, src, places, coeffs, stride);
+        return;
+    }
+    if prefers_rows(targets.len(), b, places.len()) {
+        add_rows(out, targets, b, src, places, coeffs, stride);
         return;
     }
     tiles::add_tiled(out, targets, b, src, places, coeffs, stride);
 }
 
-// Whether a product is added row by row: one row does not pay for tables, and those have room for 32 rows and columns.
-fn prefers_rows(rows: usize, width: usize) -> bool
-    ensures { λ r. ⌜ (r ≡ false → (rows ≤ 32) × (width ≤ 32)) ⌝ }
-{
-    if 32 < width {
-        return true;
-    }
-    if 32 < rows {
-        return true;
-    }
-    rows < 2
-}
-
-// Whether it goes in short tiles: the room for long ones costs more than it saves where there are few bytes.
+// Whether a product goes in short tiles: several rows of few bytes, and room for 16 rows and four columns.
 fn prefers_short(rows: usize, b: usize, width: usize) -> bool
     ensures { λ r. ⌜ (r ≡ true → (rows ≤ 16) × (width ≤ 4)) ⌝ }
 {
+    if rows < 2 {
+        return false;
+    }
     if 16 < rows {
         return false;
     }
@@ -148,6 +138,26 @@ fn prefers_short(rows: usize, b: usize, width: usize) -> bool
         return false;
     }
     rows * b <= 512
+}
+
+// Whether it goes row by row, if not so: one row and few products do not pay for the tables of long tiles, and those have room for 32 rows and columns. A product
+// with b bytes takes about as long as b + 48 bytes of a long one.
+fn prefers_rows(rows: usize, b: usize, width: usize) -> bool
+    ensures { λ r. ⌜ (r ≡ false → (rows ≤ 32) × (width ≤ 32)) ⌝ }
+{
+    if 32 < width {
+        return true;
+    }
+    if 32 < rows {
+        return true;
+    }
+    if rows < 2 {
+        return true;
+    }
+    if 128 < b {
+        return false;
+    }
+    rows * width * (b + 48) <= 2000
 }
 
 // Row by row.

@@ -9,7 +9,7 @@ ghost use Rattle.base.specs.Seq.{tabulate};
 ghost use Rattle.kernels.specs.Blocks.{Rows};
 ghost use Rattle.kernels.specs.Tiling.{bit, word, Grouped, pickOf, Spread, RowPicked, Picked};
 
-// picks := those of a matrix of coefficients. Each group has 256, and the one at place i·8 + s belongs to row i and bit 7 - s.
+// picks := those of a matrix of coefficients. Those of group g begin at g·256, and the one at place i·8 + s behind belongs to row i and bit 7 - s.
 pub(crate) fn fill_picks(
     picks: &mut [u8],
     groups: usize,

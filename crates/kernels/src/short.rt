@@ -1,4 +1,4 @@
-// The same product in tiles of 16 bytes, for few short blocks: at most four columns, which are one group, so that the table is small, and at most 16 rows.
+// A product as in `tiles`, but in tiles of 16 bytes, for few short blocks: at most four columns, which are one group, so that the table is small, and at most 16 rows.
 use crate::picks::fill_picks;
 use crate::tables::add_part;
 use crate::tables::add_tile;

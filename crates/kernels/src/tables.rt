@@ -1,4 +1,4 @@
-// The sums of a tile, 64 bytes of a block, over every choice of columns from a group.
+// The sums of a tile, 64 bytes of a block, over every choice of columns from a group; and what is done with a tile of any length.
 use base::shorter;
 use base::wide;
 use blocks::add_block;
@@ -122,7 +122,7 @@ pub(crate) fn add_tile(x: &mut [u8], y: &[u8])
     }
 }
 
-// dst += src, of at most 64 bytes: the fast way where both are as long. The other way goes through a copy, so that src can stay in registers.
+// dst += src, which has at most 64 bytes: the fast way where dst is as long. The other way goes through a copy, so that src can stay in registers.
 pub(crate) fn add_part(dst: &mut [u8], src: &[u8])
     requires { ⌜ length (now src) ≤ 64 ⌝ }
     ensures { λ _. ⌜ now (dst .exit) ≡ plus (now (dst .entry)) (now (src .entry)) ⌝ }

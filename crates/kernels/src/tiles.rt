@@ -77,7 +77,7 @@ fn add_tiles(
     }
 }
 
-// How many groups n columns make.
+// How many groups n columns make: at least one, so that there is a size.
 fn groups_of(n: usize) -> usize
     ensures { λ r. ⌜ r ≡ groupsOf n ⌝ }
 {

@@ -19,11 +19,14 @@ returns-2 c = λ e. absurd (false≢true e)
 returns-3 : tie.Need-returns-3
 returns-3 c = λ e. absurd (false≢true e)
 
+returns-4 : tie.Need-returns-4
+returns-4 c = λ e. absurd (false≢true e)
+
 mul-result : tie.Need-mul-result
 mul-result c = record { fits = small _ _ (omega arith) (omega arith) }
 
-returns-4 : tie.Need-returns-4
-returns-4 c = λ e. (omega arith, omega arith)
+returns-5 : tie.Need-returns-5
+returns-5 c = λ e. (omega arith, omega arith)
 
 pub prefers-short-spec : {M : Type 1} → statement M
-prefers-short-spec = tie.close (tie.spec returns returns-2 returns-3 mul-result returns-4)
+prefers-short-spec = tie.close (tie.spec returns returns-2 returns-3 returns-4 mul-result returns-5)

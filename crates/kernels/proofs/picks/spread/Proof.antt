@@ -40,7 +40,7 @@ cast-low : tie.Need-cast-low
 cast-low c = omega (arith, low (c .before), half-lt (c .before .before .before .before .before .args .c % 16))
 
 mul-result : tie.Need-mul-result
-mul-result c = omega (arith, low (c .before), half-lt (c .before .before .before .before .before .args .c % 16))
+mul-result c = omega (arith, low (c .before), high (c .before .before .before), half-lt (c .before .before .before .before .before .args .c % 16), half-lt (c .before .before .before .before .before .args .c / 16))
 
 add-result : tie.Need-add-result
 add-result c = omega (arith, low (c .before), high (c .before .before .before), half-lt (c .before .before .before .before .before .args .c % 16), half-lt (c .before .before .before .before .before .args .c / 16))

@@ -58,7 +58,7 @@ add-short-rows-requires c κs =
     let t = c .before .before .before .before .fill-short .ensures in
     let k = c .before .before .before .before .before .before .before .before .before .before .fill-picks .ensures in (
       subst⁻¹ (Inside (s .args .b) (now (s .args .targets))) (l .inv .2 .same) (s .pre .0 .target),
-      ((omega arith, omega arith), picks-reach (one-group _ (omega arith)) _ _ _ _ _ k 16 4 _ (s .pre .1 .1) (λ g hg. omega (arith, k .same)) (λ g hg. omega (arith, t .same, l .inv .1))),
+      ((omega arith, omega arith), picks-reach _ _ _ _ _ k 16 4 _ (s .pre .1 .1) (λ g hg. omega (arith, k .same)) (λ g hg. omega (arith, t .same, l .inv .1))),
     )
 
 add-at : tie.Need-add-at Inv-loop μ-loop

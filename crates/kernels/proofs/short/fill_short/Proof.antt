@@ -1,5 +1,5 @@
 -- After each turn the table has the sums over the columns from t on. Assumes nothing.
-use mathlib.Core.Path.{_≡_, refl, sym, ap, _∙_, subst⁻¹}
+use mathlib.Core.Path.{_≡_, sym, ap, _∙_, subst⁻¹}
 use Prim.Native.Nat.{ℕ, suc, _+_, _-_, _*_, _^_, _≤_}
 use denote.Ref.{now}
 use native.Mathlib.Nat.{pow-suc}
@@ -8,6 +8,7 @@ use borrow.Author.Needs.{needs}
 use lib.ListN.{length, getD}
 use lib.Pow.{pow-mono}
 use Rattle.base.specs.Parts.{putBlock}
+use Rattle.base.proofs.Parts.{length-partOf, putBlock-length}
 use Rattle.kernels.specs.Tiling.{tileAt, Chosen}
 use Rattle.kernels.proofs.Choices.{stretch-ends, stretch-tile, tile-byte, chosen-none, chosen-more, chosen-all}
 use Rattle.kernels.proofs.Stretches.{stretch, length-stretch}
@@ -33,18 +34,18 @@ part-clear-end c = search needs
 clear-requires : tie.Need-clear-requires Inv-loop μ-loop
 clear-requires c κs = search needs
 
--- the table of no columns
-module _ (c : tie.After-clear Inv-loop μ-loop) where
-  none : length (now (c .before .before .before .before .before .args .places)) - length (now (c .before .before .before .before .before .args .places)) ≡ 0
-  none = omega arith
-
-  cleared : Chosen 16 (c .before .before .before .before .before .args .w) (length (now (c .before .before .before .before .before .args .places)) - length (now (c .before .before .before .before .before .args .places))) (λ k. tileAt (c .before .before .before .before .before .args .b) (c .before .before .before .before .before .args .at) (now (c .before .before .before .before .before .args .src)) (now (c .before .before .before .before .before .args .places)) (length (now (c .before .before .before .before .before .args .places)) + k)) (now (c .before .before .before .before .before .args .table)) (putBlock 16 0 (now (c .before .before .before .before .before .args .table)) (c .clear .last .0))
-  cleared =
-      let s = c .before .before .before .before .before in
-      chosen-none 16 _ (s .pre .1 .0 .1) (tileAt (s .args .b) (s .args .at) (now (s .args .src)) (now (s .args .places))) (now (s .args .table)) 16 (length (now (s .args .places))) _ _ none (omega arith) (s .pre .1 .1 .1) (c .clear .ensures)
+-- the table keeps its length when its first entry is cleared
+kept : (c : tie.After-clear Inv-loop μ-loop) → length (putBlock 16 0 (now (c .before .before .before .before .before .args .table)) (c .clear .last .0)) ≡ length (now (c .before .before .before .before .before .args .table))
+kept c =
+    let s = c .before .before .before .before .before in
+    putBlock-length 16 16 0 (now (s .args .table)) (c .clear .last .0) (omega arith) (omega (arith, s .pre .1 .1 .1))
+    (c .clear .kept .0 ∙ length-partOf 16 0 (now (s .args .table)) (omega (arith, s .pre .1 .1 .1)))
 
 loop-holds : tie.Need-loop-holds Inv-loop μ-loop
-loop-holds c = (omega arith, ap (λ (k : ℕ). 2 ^ k) (sym (none (c .before .before))), record { same = refl; entry = cleared (c .before .before) .entry })
+loop-holds c =
+    let s = c .before .before .before .before .before .before .before in
+    let none : length (now (s .args .places)) - length (now (s .args .places)) ≡ 0 = omega arith in
+    (omega arith, ap (λ (k : ℕ). 2 ^ k) (sym none), chosen-none 16 _ (s .pre .1 .0 .1) _ 16 _ (now (s .args .table)) _ none (omega arith) (s .pre .1 .1 .1) (c .before .before .clear .ensures))
 
 sub-wide : tie.Need-sub-wide Inv-loop μ-loop
 sub-wide c = search needs
@@ -91,7 +92,7 @@ add-short-column-requires : tie.Need-add-short-column-requires Inv-loop μ-loop
 add-short-column-requires c κs =
     let s = c .before .before .before .before .before .before .before .before .before .before .before .before .before in
     let start = c .before .before .wide .result * s .args .b + s .args .at in
-    (c .before .before .before .before .before .loop .inv .2 .same ∙ cleared (c .before .before .before .before .before .before .before .before) .same ∙ s .pre .1 .1 .1, halves (c .before .before), omega (arith, length-stretch start (s .args .w) (now (s .args .src)) (inside (c .before .before))))
+    (c .before .before .before .before .before .loop .inv .2 .same ∙ kept (c .before .before .before .before .before .before .before .before) ∙ s .pre .1 .1 .1, halves (c .before .before), omega (arith, length-stretch start (s .args .w) (now (s .args .src)) (inside (c .before .before))))
 
 mul-half : tie.Need-mul-half Inv-loop μ-loop
 mul-half c = omega (arith, halves (c .before .before .before .before .before))
@@ -118,14 +119,14 @@ loop-again c =
     )
 
 same-length : tie.Need-same-length Inv-loop μ-loop
-same-length c = c .before .loop .inv .2 .same ∙ cleared (c .before .before .before .before) .same
+same-length c = c .before .loop .inv .2 .same ∙ kept (c .before .before .before .before)
 
 returns : tie.Need-returns Inv-loop μ-loop
 returns c =
     let s = c .before .before .before .before .before .before .before .before .before in
     let l = c .before .loop in
     let r = chosen-all 16 (s .args .w) (s .pre .1 .0 .1) _ _ (l .t) _ (l .table) (omega arith) (l .inv .2) in
-    record { same = r .same ∙ cleared (c .before .before .before .before) .same; entry = r .entry }
+    record { same = r .same ∙ kept (c .before .before .before .before); entry = r .entry }
 
 pub fill-short-spec : {M : Type 1} → statement M
 fill-short-spec =

@@ -1,8 +1,6 @@
 -- Zeros behind the copy of src add nothing. Assumes nothing.
-use mathlib.Core.Path.{ap, _∙_}
-use denote.Ref.{now}
+use mathlib.Core.Path.{_∙_}
 use borrow.Author.Needs.{needs}
-use Rattle.blocks.specs.Bytes.{plus}
 use Rattle.kernels.proofs.Choices.{plus-copy}
 use Rattle.kernels.proofs.tables.add_part.Statement.{statement}
 use Rattle.kernels.proofs.tables.add_part.Tie as tie

@@ -1,5 +1,5 @@
 -- After each turn the table has the sums over the columns from t on. Assumes nothing.
-use mathlib.Core.Path.{_≡_, refl, sym, ap, _∙_, subst⁻¹}
+use mathlib.Core.Path.{_≡_, sym, ap, _∙_, subst⁻¹}
 use Prim.Native.Nat.{ℕ, suc, _+_, _-_, _*_, _^_, _≤_}
 use denote.Ref.{now}
 use native.Mathlib.Nat.{pow-suc}
@@ -8,6 +8,7 @@ use borrow.Author.Needs.{needs}
 use lib.ListN.{length, getD}
 use lib.Pow.{pow-mono}
 use Rattle.base.specs.Parts.{putBlock}
+use Rattle.base.proofs.Parts.{length-partOf, putBlock-length}
 use Rattle.kernels.specs.Tiling.{tileAt, Chosen}
 use Rattle.kernels.proofs.Choices.{stretch-ends, stretch-tile, tile-byte, chosen-none, chosen-more, chosen-all}
 use Rattle.kernels.proofs.tables.fill_group.Statement.{statement}
@@ -33,21 +34,18 @@ part-clear-end c = search needs
 clear-requires : tie.Need-clear-requires Inv-loop μ-loop
 clear-requires c κs = search needs
 
--- the table of no columns
-module _ (c : tie.After-clear Inv-loop μ-loop) where
-  none : length (now (c .before .before .before .before .before .args .places)) - length (now (c .before .before .before .before .before .args .places)) ≡ 0
-  none = omega arith
-
-  cleared : Chosen 64 (c .before .before .before .before .before .args .w) (length (now (c .before .before .before .before .before .args .places)) - length (now (c .before .before .before .before .before .args .places))) (λ k. tileAt (c .before .before .before .before .before .args .b) (c .before .before .before .before .before .args .at) (now (c .before .before .before .before .before .args .src)) (now (c .before .before .before .before .before .args .places)) (length (now (c .before .before .before .before .before .args .places)) + k)) (now (c .before .before .before .before .before .args .table)) (putBlock 64 0 (now (c .before .before .before .before .before .args .table)) (c .clear .last .0))
-  cleared =
-      let s = c .before .before .before .before .before in
-      chosen-none 64 _ (s .pre .1 .0 .1) (tileAt (s .args .b) (s .args .at) (now (s .args .src)) (now (s .args .places))) (now (s .args .table)) 32 (length (now (s .args .places))) _ _ none (omega arith) (s .pre .1 .1 .1) (c .clear .ensures)
+-- the table keeps its length when its first entry is cleared
+kept : (c : tie.After-clear Inv-loop μ-loop) → length (putBlock 64 0 (now (c .before .before .before .before .before .args .table)) (c .clear .last .0)) ≡ length (now (c .before .before .before .before .before .args .table))
+kept c =
+    let s = c .before .before .before .before .before in
+    putBlock-length 64 32 0 (now (s .args .table)) (c .clear .last .0) (omega arith) (omega (arith, s .pre .1 .1 .1))
+    (c .clear .kept .0 ∙ length-partOf 64 0 (now (s .args .table)) (omega (arith, s .pre .1 .1 .1)))
 
 loop-holds : tie.Need-loop-holds Inv-loop μ-loop
 loop-holds c =
-    let none : length (now (c .before .before .before .before .before .before .before .args .places)) - length (now (c .before .before .before .before .before .before .before .args .places)) ≡ 0 = omega arith in
-    let s = cleared (c .before .before) in
-    (omega arith, ap (λ (k : ℕ). 2 ^ k) (sym none), record { same = refl; entry = s .entry })
+    let s = c .before .before .before .before .before .before .before in
+    let none : length (now (s .args .places)) - length (now (s .args .places)) ≡ 0 = omega arith in
+    (omega arith, ap (λ (k : ℕ). 2 ^ k) (sym none), chosen-none 64 _ (s .pre .1 .0 .1) _ 32 _ (now (s .args .table)) _ none (omega arith) (s .pre .1 .1 .1) (c .before .before .clear .ensures))
 
 sub-wide : tie.Need-sub-wide Inv-loop μ-loop
 sub-wide c = search needs
@@ -96,7 +94,7 @@ add-column-requires c κs =
     let l = c .before .before .before .before .before .loop in
     let s = c .before .before .before .before .before .before .before .before .before .before .before .before .before in
     let a = c .before .before in
-    (l .inv .2 .same ∙ cleared (c .before .before .before .before .before .before .before .before) .same ∙ s .pre .1 .1 .1, halves a, omega (arith, length-stretch (a .wide .result * s .args .b + s .args .at) (s .args .w) (now (s .args .src)) (inside a)))
+    (l .inv .2 .same ∙ kept (c .before .before .before .before .before .before .before .before) ∙ s .pre .1 .1 .1, halves a, omega (arith, length-stretch (a .wide .result * s .args .b + s .args .at) (s .args .w) (now (s .args .src)) (inside a)))
 
 mul-half : tie.Need-mul-half Inv-loop μ-loop
 mul-half c = omega (arith, halves (c .before .before .before .before .before))
@@ -123,14 +121,14 @@ loop-again c =
     )
 
 same-length : tie.Need-same-length Inv-loop μ-loop
-same-length c = c .before .loop .inv .2 .same ∙ cleared (c .before .before .before .before) .same
+same-length c = c .before .loop .inv .2 .same ∙ kept (c .before .before .before .before)
 
 returns : tie.Need-returns Inv-loop μ-loop
 returns c =
     let s = c .before .before .before .before .before .before .before .before .before in
     let l = c .before .loop in
     let r = chosen-all 64 (s .args .w) (s .pre .1 .0 .1) _ _ (l .t) _ (l .table) (omega arith) (l .inv .2) in
-    record { same = r .same ∙ cleared (c .before .before .before .before) .same; entry = r .entry }
+    record { same = r .same ∙ kept (c .before .before .before .before); entry = r .entry }
 
 pub fill-group-spec : {M : Type 1} → statement M
 fill-group-spec =

@@ -1,6 +1,6 @@
 -- After g turns the first g groups have their tables. Assumes nothing.
 use mathlib.Core.Path.{_≡_, _∙_, subst, subst⁻¹}
-use Prim.Native.Nat.{ℕ, _+_, _-_, _*_, _≤_, _<_}
+use Prim.Native.Nat.{ℕ, _+_, _-_, _*_, _≤_}
 use denote.Ref.{now}
 use native.Mathlib.Omega.{arith}
 use borrow.Author.Needs.{needs}
@@ -87,11 +87,8 @@ fill-group-requires c κs =
 add-g : tie.Need-add-g Inv-loop μ-loop
 add-g c = search needs
 
-fewer : (g groups : ℕ) → g < groups → groups - (g + 1) < groups - g
-fewer g groups h = omega arith
-
 loop-less : tie.Need-loop-less Inv-loop μ-loop
-loop-less c = fewer (c .before .before .before .before .before .before .before .loop .g) _ (omega arith)
+loop-less c = search needs
 
 loop-again : tie.Need-loop-again Inv-loop μ-loop
 loop-again c =

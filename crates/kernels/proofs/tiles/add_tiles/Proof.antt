@@ -1,5 +1,5 @@
 -- After each turn the bytes before `at` of every block have the rows added that go to it, the others are as they were. Assumes nothing.
-use mathlib.Core.Path.{_≡_, refl, sym, _∙_, subst⁻¹}
+use mathlib.Core.Path.{_≡_, refl, _∙_, subst⁻¹}
 use mathlib.Core.Logic.{⊎-elim}
 use Prim.Native.Nat.{ℕ, _-_, _^_, _≤_, _<_}
 use denote.Ref.{now}
@@ -8,7 +8,7 @@ use borrow.Author.Needs.{needs}
 use lib.ListN.{length}
 use Rattle.base.proofs.Cases.{lt-or}
 use Rattle.kernels.specs.Blocks.{Inside}
-use Rattle.kernels.specs.Tiling.{Grouped, groupsOf, sizeOf}
+use Rattle.kernels.specs.Tiling.{Grouped, groupsOf}
 use Rattle.kernels.proofs.Digits.{few-groups, grouping}
 use Rattle.kernels.proofs.Spans.{picks-reach, row-product, blockAt, Tiled, tiled-none, tiled-more, tiled-all}
 use Rattle.kernels.proofs.tiles.add_tiles.Statement.{statement}
@@ -75,7 +75,7 @@ add-tile-rows-requires c κs =
         (omega arith, omega arith),
         (
           (seven a, s .pre .1 .0 .0),
-          picks-reach (all-grouped a) _ _ _ _ _ p 64 5 _ (all-grouped a .few) (λ g hg. omega (arith, seven a, s .pre .1 .0 .0, s .pre .1 .1 .1, p .same))
+          picks-reach _ _ _ _ _ p 64 5 _ (all-grouped a .few) (λ g hg. omega (arith, seven a, s .pre .1 .0 .0, s .pre .1 .1 .1, p .same))
               (λ g hg. omega (arith, seven a, s .pre .1 .1 .0, t .same, l .inv .1)),
         ),
       ),
