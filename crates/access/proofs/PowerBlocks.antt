@@ -1,14 +1,14 @@
 -- The powers of the nodes' points, applied to message and slack side by side, give document 01's blocks; the nodes 1..n are those outside the empty set.
 -- Assumes nothing.
-use mathlib.Core.Path.{_≡_, sym, ap, ap₂, _∙_}
+use mathlib.Core.Path.{_≡_, sym, ap, ap₂, _∙_, subst}
 use mathlib.Core.Bool.{Bool, true, not, _&&_}
-use mathlib.Core.List.{List, _++_}
+use mathlib.Core.List.{List, [], _++_, append-nil}
 use Prim.Native.Nat.{ℕ, suc, _-_, _*_, _^_, min, _≤_, _<_}
 use native.Mathlib.Nat.{le-refl}
 use native.Mathlib.Omega.{arith}
 use lib.Dec.{leb}
 use lib.ListN.{length, getD, take, drop, replicate, length-append, length-replicate}
-use lib.Seq.{getD-take}
+use lib.Seq.{getD-take, take-length}
 use Rattle.base.specs.Seq.{cell}
 use Rattle.field.specs.Field.{add, mul, pow}
 use Rattle.field.specs.FiniteSum.{sum}
@@ -29,7 +29,7 @@ use Rattle.code.specs.Calls.{Encoded}
 use Rattle.kernels.specs.Blocks.{Fits, Added}
 use Rattle.kernels.proofs.Arriving.{ordered-product}
 use Rattle.coefficients.specs.Coefficients.{listed, inOrder, powerRows}
-use Rattle.coefficients.proofs.Laws.{areas-fit, cell-front, Lists, list-at, length-powerRows, powerRows-at, product-fits, first-length, first-at, first-inside, product-first}
+use Rattle.coefficients.proofs.Laws.{areas-fit, buffer-front, cell-front, Lists, list-at, length-powerRows, powerRows-at, product-fits, first-length, first-at, first-inside, product-first}
 
 -- ---- the nodes 1..n
 
@@ -47,6 +47,15 @@ module _ (n all : ℕ) (small : n ≤ 32) (is : (i : ℕ) → has all i ≡ (out
       let r : count (has all) j ≡ j = all-rank j h in
       getD-take n list j 0 h ∙ list-at all word list e j ∙ ap (λ (i : ℕ). getD (listed all) i 0) (sym r)
       ∙ node-at-rank (has all) 32 j (omega arith) (all-has j h)
+
+-- ---- slices lent anew
+
+-- the whole of the parts, and the rows at the front of their buffer
+pub lent-fronts : (b q n : ℕ) (parts rows rest targets places old new : List ℕ) → length rows ≡ n
+    → Added b q (take (length parts) parts) targets places (take n (rows ++ rest)) old new → Added b q parts targets places (rows ++ []) old new
+lent-fronts b q n parts rows rest targets places old new full made =
+    subst (λ (l : List ℕ). Added b q parts targets places l old new) (buffer-front n rows rest full ∙ sym (append-nil rows))
+    (subst (λ (l : List ℕ). Added b q l targets places (take n (rows ++ rest)) old new) (take-length parts) made)
 
 -- ---- the powers
 

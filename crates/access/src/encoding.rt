@@ -26,11 +26,16 @@ pub fn encode(a: Params, message: &[u8], slack: &[u8], codeword: &mut [u8]) -> u
     0
 }
 
-// An accepted call: makes room for message and slack side by side, no more than is wanted, since room is cleared at each call.
+// An accepted call: makes room for message and slack side by side, no more than is wanted, since room is cleared at each call. The larger rooms have a function with
+// two callers: the compiler does not make that part of this one, and so a small call takes no stack for them.
 fn encode_blocks(a: Params, message: &[u8], slack: &[u8], codeword: &mut [u8])
     requires { ⌜ EncodeAccepted a (length (now message)) (length (now slack)) (length (now codeword)) ⌝ }
     ensures { λ _. ⌜ Encoded a (now (message .entry)) (now (slack .entry)) (now (codeword .exit)) ⌝ }
 {
+    if 512 < a.b {
+        encode_large(a, message, slack, codeword);
+        return;
+    }
     let size = message.len() + slack.len();
     if size <= 128 {
         encode_least(a, message, slack, codeword);
@@ -40,7 +45,14 @@ fn encode_blocks(a: Params, message: &[u8], slack: &[u8], codeword: &mut [u8])
         encode_few(a, message, slack, codeword);
         return;
     }
-    if size <= 10240 {
+    encode_large(a, message, slack, codeword);
+}
+
+fn encode_large(a: Params, message: &[u8], slack: &[u8], codeword: &mut [u8])
+    requires { ⌜ EncodeAccepted a (length (now message)) (length (now slack)) (length (now codeword)) ⌝ }
+    ensures { λ _. ⌜ Encoded a (now (message .entry)) (now (slack .entry)) (now (codeword .exit)) ⌝ }
+{
+    if message.len() + slack.len() <= 10240 {
         encode_more(a, message, slack, codeword);
         return;
     }
@@ -127,7 +139,8 @@ fn encode_wide(a: Params, parts: &[u8], codeword: &mut [u8])
     encode_within(a, parts, &mut rows, codeword);
 }
 
-// The same, with room for the powers: a row for each node, a column for each part.
+// The same, with room for the powers: a row for each node, a column for each part. Parts and rows are lent anew: a slice that is handed on as it came is copied,
+// pointer and length at once, just after these were stored one by one, and such a copy waits for the stores.
 fn encode_within(a: Params, parts: &[u8], rows: &mut [u8], codeword: &mut [u8])
     requires { ⌜ Valid a ⌝ }
     requires { ⌜ (length (now parts) ≡ working a * a .b) × (length (now codeword) ≡ a .n * a .b) ⌝ }
@@ -142,6 +155,15 @@ fn encode_within(a: Params, parts: &[u8], rows: &mut [u8], codeword: &mut [u8])
     power_rows(&nodes[..n], 0, q, &mut rows[..area]);
     let order = in_order();
     let columns = in_order();
+    let size = parts.len();
     clear(codeword);
-    add_product(codeword, &order[..n], a.b, parts, &columns[..q], rows, q);
+    add_product(
+        codeword,
+        &order[..n],
+        a.b,
+        &parts[..size],
+        &columns[..q],
+        &rows[..area],
+        q,
+    );
 }

@@ -1,13 +1,15 @@
 -- The rows of powers take message and slack, side by side, to the blocks. Assumes nothing.
-use mathlib.Core.Path.{sym, ap, _∙_}
+use mathlib.Core.Path.{_≡_, sym, ap, _∙_}
+use mathlib.Core.List.{[]}
 use Prim.Native.Nat.{ℕ, _*_, _≤_}
 use native.Mathlib.Omega.{arith}
 use borrow.Author.Needs.{needs}
 use denote.Ref.{now}
-use lib.ListN.{length, take, replicate}
-use lib.Seq.{length-take-le}
+use lib.ListN.{length, take, drop, replicate}
+use lib.Seq.{take-length, length-take-le}
 use Rattle.params.proofs.Sets.{listing-zeros}
-use Rattle.access.proofs.PowerBlocks.{all-listed, powers-most, most, area-is, encoded}
+use Rattle.coefficients.proofs.Laws.{buffer-fits, buffer-count}
+use Rattle.access.proofs.PowerBlocks.{all-listed, powers-most, most, area-is, lent-fronts, encoded}
 use Rattle.access.proofs.encoding.encode_within.Statement.{statement}
 use Rattle.access.proofs.encoding.encode_within.Tie as tie
 
@@ -49,6 +51,10 @@ slice-aggregate-power-rows-2 c = sym (length-take-le _ (now (c .before .before .
 power-rows-requires : tie.Need-power-rows-requires
 power-rows-requires c κs = search needs
 
+-- which fill their part of it
+powered : (c : tie.After-power-rows) → length (c .power-rows .last .1 .1 .1 .0) ≡ c .before .before .before .before .before .before .before .before .before .before .before .args .a .n * c .before .before .before .before .before .before .before .working .result
+powered c = c .power-rows .kept .1 .1 .1 .0 ∙ sym (slice-aggregate-power-rows-2 (c .before))
+
 in-order-requires : tie.Need-in-order-requires
 in-order-requires c κs = search needs
 
@@ -64,13 +70,26 @@ array-share-prefix-order c = search needs
 slice-aggregate-add-product : tie.Need-slice-aggregate-add-product
 slice-aggregate-add-product c = sym (length-take-le _ (c .before .before .before .before .before .before .before .in-order .result) (array-share-prefix-order (c .before)))
 
+slice-aggregate-add-product-2 : tie.Need-slice-aggregate-add-product-2
+slice-aggregate-add-product-2 c = sym (ap length (take-length (now (c .before .before .before .before .before .before .before .before .before .before .before .before .before .before .before .before .before .before .before .before .before .before .args .parts))))
+
 array-share-prefix-columns : tie.Need-array-share-prefix-columns
 array-share-prefix-columns c =
-    let z = c .before .before .before .before .before .before .before .before .before .before .before .before .before .before .before .before .before in
+    let z = c .before .before .before .before .before .before .before .before .before .before .before .before .before .before .before .before .before .before in
     omega (arith, most (z .before .before .before .before .args .a) (z .before .before .before .before .pre .0) (z .working .result) (z .working .ensures))
 
-slice-aggregate-add-product-2 : tie.Need-slice-aggregate-add-product-2
-slice-aggregate-add-product-2 c = sym (length-take-le _ (c .before .before .before .before .before .before .before .in-order2 .result) (array-share-prefix-columns (c .before)))
+slice-aggregate-add-product-3 : tie.Need-slice-aggregate-add-product-3
+slice-aggregate-add-product-3 c = sym (length-take-le _ (c .before .before .before .before .before .before .before .before .in-order2 .result) (array-share-prefix-columns (c .before)))
+
+slice-reshare-prefix-add-product : tie.Need-slice-reshare-prefix-add-product
+slice-reshare-prefix-add-product c =
+    let s = c .before .before .before .before .before .before .before .before .before .before .before .before .before .before .before .before .before .before .before .before .before .before .before in
+    buffer-fits _ (c .before .before .before .before .before .before .before .before .before .before .before .before .power-rows .last .1 .1 .1 .0) (drop (s .args .a .n * c .before .before .before .before .before .before .before .before .before .before .before .before .before .before .before .before .before .before .before .working .result) (now (s .args .rows))) (powered (c .before .before .before .before .before .before .before .before .before .before .before .before))
+
+slice-aggregate-add-product-4 : tie.Need-slice-aggregate-add-product-4
+slice-aggregate-add-product-4 c =
+    let s = c .before .before .before .before .before .before .before .before .before .before .before .before .before .before .before .before .before .before .before .before .before .before .before .before in
+    buffer-count _ (c .before .before .before .before .before .before .before .before .before .before .before .before .before .power-rows .last .1 .1 .1 .0) (drop (s .args .a .n * c .before .before .before .before .before .before .before .before .before .before .before .before .before .before .before .before .before .before .before .before .working .result) (now (s .args .rows))) (powered (c .before .before .before .before .before .before .before .before .before .before .before .before .before))
 
 add-product-requires : tie.Need-add-product-requires
 add-product-requires c κs = search needs
@@ -84,7 +103,7 @@ same-length-2 c = search needs
 returns : tie.Need-returns
 returns c =
     let p = c .before .before in
-    let e = p .before .before .before .before .before .before .before in
+    let e = p .before .before .before .before .before .before .before .before in
     let k = e .before .before in
     let o = k .before in
     let r = o .before .before .before in
@@ -95,13 +114,17 @@ returns c =
     let s = z .before .before .before .before in
     let full = slice-aggregate-power-rows f in
     let room = sym (slice-aggregate-power-rows-2 (r .before)) ∙ ap (λ (n : ℕ). n * z .working .result) full in
-    encoded (s .args .a) (s .pre .0) (z .working .result) (z .working .ensures) (take (s .args .a .n) (l .list .last .1 .0)) (r .power-rows .last .1 .1 .1 .0) _
+    let q = z .working .result in
+    let last = r .power-rows .last .1 .1 .1 .0 in
+    let rest = drop (s .args .a .n * q) (now (s .args .rows)) in
+    encoded (s .args .a) (s .pre .0) q (z .working .ensures) (take (s .args .a .n) (l .list .last .1 .0)) last []
     (sym full)
     (all-listed (s .args .a .n) (u .outside .result .0) (s .pre .0 .shape .n-high) (u .outside .ensures) (l .list .last .1 .0)
     (omega (arith, u .outside .ok)) (listing-zeros _ _ (l .list .ensures)))
     (r .power-rows .ensures .written room) (now (s .args .parts)) (o .in-order .result) (k .in-order2 .result) _ _ (s .pre .1 .0 .0)
     (e .clear .ensures ∙ ap (λ (n : ℕ). replicate n 0) (s .pre .1 .0 .1))
-    (o .in-order .ensures) (k .in-order2 .ensures) (p .add-product .ensures)
+    (o .in-order .ensures) (k .in-order2 .ensures)
+    (lent-fronts (s .args .a .b) q _ (now (s .args .parts)) last rest _ _ _ _ (powered r) (p .add-product .ensures))
 
 pub encode-within-spec : {M : Type 1} → statement M
 encode-within-spec =
@@ -122,8 +145,11 @@ encode-within-spec =
     clear-requires
     array-share-prefix-order
     slice-aggregate-add-product
-    array-share-prefix-columns
     slice-aggregate-add-product-2
+    array-share-prefix-columns
+    slice-aggregate-add-product-3
+    slice-reshare-prefix-add-product
+    slice-aggregate-add-product-4
     add-product-requires
     same-length
     same-length-2
