@@ -6,13 +6,9 @@ use native.Mathlib.Omega.{arith}
 use Rattle.kernels.proofs.prefers_rows.Statement.{statement}
 use Rattle.kernels.proofs.prefers_rows.Tie as tie
 
--- few products
-area : (rows width : ℕ) → rows ≤ 32 → width ≤ 32 → rows * width ≤ 1024
-area rows width hr hw = mul-le-mul hr hw
-
--- of few bytes
-bytes : (n m : ℕ) → n ≤ 1024 → m ≤ 176 → n * m ≤ 180224
-bytes n m hn hm = mul-le-mul hn hm
+-- a product of numbers that are not large
+small : (m n x y : ℕ) → m ≤ x → n ≤ y → m * n ≤ x * y
+small m n x y hm hn = mul-le-mul hm hn
 
 returns : tie.Need-returns
 returns c = λ e. absurd (true≢false e)
@@ -27,7 +23,7 @@ returns-4 : tie.Need-returns-4
 returns-4 c = λ e. (omega arith, omega arith)
 
 mul-result : tie.Need-mul-result
-mul-result c = omega (arith, area (c .before .before .before .before .args .rows) (c .before .before .before .before .args .width) (omega arith) (omega arith))
+mul-result c = omega (arith, small (c .before .before .before .before .args .rows) (c .before .before .before .before .args .width) 32 32 (omega arith) (omega arith))
 
 add-result : tie.Need-add-result
 add-result c = omega arith
@@ -35,7 +31,7 @@ add-result c = omega arith
 mul-result-2 : tie.Need-mul-result-2
 mul-result-2 c =
     let s = c .before .before .before .before .args in
-    omega (arith, bytes (s .rows * s .width) (s .b + 48) (area (s .rows) (s .width) (omega arith) (omega arith)) (omega arith))
+    omega (arith, small (s .rows * s .width) (s .b + 48) 1024 176 (small (s .rows) (s .width) 32 32 (omega arith) (omega arith)) (omega arith))
 
 returns-5 : tie.Need-returns-5
 returns-5 c = λ e. (omega arith, omega arith)
