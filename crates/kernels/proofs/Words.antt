@@ -7,6 +7,7 @@ use borrow.Rule.Slice.PartMut.{putMid, same-len-mid}
 use native.Mathlib.Nat.{not-suc-le-zero, le-of-suc-le-suc, pow-suc, pow-succ', div-div-eq-div-mul}
 use native.Mathlib.Numerals.{add-one}
 use native.Mathlib.Omega.{arith}
+use lib.Bits.{bitAnd}
 use lib.Dec.{T, eqb, eqb→eq}
 use lib.ListN.{length, getD}
 use Rattle.base.specs.Seq.{tabulate, cell}
@@ -15,7 +16,7 @@ use Rattle.base.proofs.Parts.{put-before, put-in, put-after}
 use Rattle.base.proofs.Seq.{length-tabulate, getD-tabulate}
 use Rattle.base.proofs.Test.{allBelow, below}
 use Rattle.field.specs.Field.{IsByte}
-use Rattle.kernels.specs.Tiling.{bit, number, word, columns, pickOf, Spread, RowPicked, Picked}
+use Rattle.kernels.specs.Tiling.{bit, number, word, columns, pickOf, RowPicked, Picked}
 use Rattle.kernels.proofs.Digits.{bit-lt, number-below}
 use Rattle.kernels.proofs.Stretches.{stretch, rowOf, length-stretch, stretch-at}
 
@@ -47,23 +48,10 @@ word-byte (suc m) f (suc s) h lt =
 
 -- ---- the bits of a coefficient, spread over a word
 
--- those of a half byte
-abbrev pub half : ℕ → ℕ
-half x = word 4 (λ s. x * 2 ^ s / 8 % 2)
-
-pub half-lt : (x : ℕ) → half x < 4294967296
-half-lt x = word-lt 4 _ (λ s. omega arith)
-
-pub halves : (c : ℕ) → IsByte c → half (c % 16) * 4294967296 + half (c / 16) ≡ word 8 (λ s. bit s c)
-unfolding word bit
-halves c h = eqb→eq _ _ (below 256 (λ c. eqb (half (c % 16) * 4294967296 + half (c / 16)) (word 8 (λ s. bit s c))) tt c h)
-
--- a table of sixteen entries that passes the test
-pub spread-table : (l : List ℕ) → length l ≡ 16 → T (allBelow 16 (λ x. eqb (getD l x 0) (half x))) → Spread l
-spread-table l e t = record { size = e; each = λ x h. eqb→eq _ _ (below 16 (λ x. eqb (getD l x 0) (half x)) t x h) }
-
-pub spread-at : {l : List ℕ} → Spread l → (x y : ℕ) → y ≡ x → x < 16 → getD l y 0 ≡ half x
-spread-at {l} r x y e h = ap (λ (k : ℕ). getD l k 0) e ∙ r .each x h
+-- by numbers that pass the test
+pub spread-by : (low k mask high c : ℕ) → IsByte c → T (allBelow 256 (λ c. eqb (bitAnd (c % low * k) mask + c / high) (word 8 (λ s. bit s c))))
+    → bitAnd (c % low * k) mask + c / high ≡ word 8 (λ s. bit s c)
+spread-by low k mask high c h t = eqb→eq _ _ (below 256 (λ c. eqb (bitAnd (c % low * k) mask + c / high) (word 8 (λ s. bit s c))) t c h)
 
 -- ---- the picks of some coefficients
 

@@ -80,11 +80,6 @@ pub record Tabled (t b at w size : ℕ) (src places : List ℕ) (groups : ℕ) (
 unfoldable pub pickOf : List ℕ → ℕ → ℕ
 pickOf coeffs s = number (length coeffs) (λ k. bit s (getD coeffs k 0))
 
--- the bits of each half byte x, as the bytes of a word, the highest bit first
-pub record Spread (spreads : List ℕ) : Type 0 where
-  pub size : length spreads ≡ 16
-  pub each : (x : ℕ) → x < 16 → getD spreads x 0 ≡ word 4 (λ s. x * 2 ^ s / 8 % 2)
-
 -- row i of the picks of so many groups is that of the given coefficients; the other rows are as they were
 pub record RowPicked (i size : ℕ) (coeffs : List ℕ) (groups : ℕ) (old new : List ℕ) : Type 0 where
   pub same : length new ≡ length old

@@ -1,13 +1,12 @@
 // Which entries of the groups' tables a row of coefficients sums. Of each group of columns, and each of the eight bits of a coefficient, the bits of its columns are
 // one number: the pick. The eight picks of a row and group are found together, as the bytes of one word: each column doubles the word and adds its bits, spread over the bytes.
 use base::shorter;
-use base::wide;
 ghost use mathlib.Core.Path.{_≡_};
 ghost use Prim.Native.Nat.{ℕ, _+_, _*_, _/_, _%_, _^_, _≤_, _<_};
 ghost use lib.ListN.{length};
 ghost use Rattle.base.specs.Seq.{tabulate};
 ghost use Rattle.kernels.specs.Blocks.{Rows};
-ghost use Rattle.kernels.specs.Tiling.{bit, word, Grouped, pickOf, Spread, RowPicked, Picked};
+ghost use Rattle.kernels.specs.Tiling.{bit, word, Grouped, pickOf, RowPicked, Picked};
 
 // picks := those of a matrix of coefficients. Those of group g begin at g·256, and the one at place i·8 + s behind belongs to row i and bit 7 - s.
 pub(crate) fn fill_picks(
@@ -24,28 +23,26 @@ pub(crate) fn fill_picks(
     requires { ⌜ Rows rows width stride (length (now coeffs)) ⌝ }
     ensures { λ _. ⌜ Picked rows stride (now (coeffs .entry)) width groups size (now (picks .entry)) (now (picks .exit)) ⌝ }
 {
-    let spreads = spreads();
     let mut i = 0;
     while i < rows {
         let row = i * stride;
         let end = row + width;
-        fill_row(picks, groups, size, i, &coeffs[row..end], &spreads);
+        fill_row(picks, groups, size, i, &coeffs[row..end]);
         i += 1;
     }
 }
 
 // Row i of the picks := that of its coefficients.
-fn fill_row(picks: &mut [u8], groups: usize, size: usize, i: usize, coeffs: &[u8], spreads: &[u32])
+fn fill_row(picks: &mut [u8], groups: usize, size: usize, i: usize, coeffs: &[u8])
     requires { ⌜ Grouped (length (now coeffs)) groups size ⌝ }
     requires { ⌜ (i < 32) × ((g : ℕ) → g < groups → g * 256 + i * 8 + 8 ≤ length (now picks)) ⌝ }
-    requires { ⌜ Spread (now spreads) ⌝ }
     ensures { λ _. ⌜ RowPicked i size (now (coeffs .entry)) groups (now (picks .entry)) (now (picks .exit)) ⌝ }
 {
     let mut g = 0;
     while g < groups {
         let j = g * size;
         let end = j + shorter(size, coeffs.len() - j);
-        let word = word_of(&coeffs[j..end], spreads);
+        let word = word_of(&coeffs[j..end]);
         let at = g * 256 + i * 8;
         let stop = at + 8;
         put_word(&mut picks[at..stop], word);
@@ -54,52 +51,26 @@ fn fill_row(picks: &mut [u8], groups: usize, size: usize, i: usize, coeffs: &[u8
 }
 
 // The eight picks of at most five coefficients, as the bytes of a word, that of the highest bit the lowest byte.
-fn word_of(coeffs: &[u8], spreads: &[u32]) -> u64
+fn word_of(coeffs: &[u8]) -> u64
     requires { ⌜ length (now coeffs) ≤ 5 ⌝ }
-    requires { ⌜ Spread (now spreads) ⌝ }
     ensures { λ r. ⌜ r ≡ word 8 (pickOf (now (coeffs .entry))) ⌝ }
 {
     let mut word = 0;
     let mut k = 0;
     while k < coeffs.len() {
-        word = word * 2 + spread(coeffs[k], spreads);
+        word = word * 2 + spread(coeffs[k]);
         k += 1;
     }
     word
 }
 
-// The bits of c, each as a byte of a word, the highest the lowest byte.
-fn spread(c: u8, spreads: &[u32]) -> u64
-    requires { ⌜ Spread (now spreads) ⌝ }
+// The bits of c, each as a byte of a word, the highest the lowest byte. The factor is the sum of 2^(56 - 9b) over b from 0 to 6: of the copies of the seven lower bits
+// that it makes, each brings one, bit b, to its place 56 - 8b. The mask is the sum of 2^(56 - 8b), and leaves those.
+fn spread(c: u8) -> u64
     ensures { λ r. ⌜ r ≡ word 8 (λ s. bit s c) ⌝ }
 {
-    let high = spreads[wide(c / 16)] as u64;
-    let low = spreads[wide(c % 16)] as u64;
-    low * 4294967296 + high
-}
-
-// The same of each half byte: four bits, four bytes.
-fn spreads() -> [u32; 16]
-    ensures { λ r. ⌜ Spread r ⌝ }
-{
-    [
-        0,
-        16777216,
-        65536,
-        16842752,
-        256,
-        16777472,
-        65792,
-        16843008,
-        1,
-        16777217,
-        65537,
-        16842753,
-        257,
-        16777473,
-        65793,
-        16843009,
-    ]
+    let copies = (c % 128) as u64 * 72198606942111748;
+    (copies & 72340172838076672) + (c / 128) as u64
 }
 
 // The bytes of a word, the lowest first.

@@ -13,21 +13,21 @@ use Rattle.kernels.proofs.picks.fill_row.Statement.{statement}
 use Rattle.kernels.proofs.picks.fill_row.Tie as tie
 
 abbrev Inv-loop : tie.InvT-loop
-Inv-loop picks₀ groups size i coeffs spreads g₀ picks g = (g ≤ groups) × RowPicked i size coeffs g picks₀ picks
+Inv-loop picks₀ groups size i coeffs g₀ picks g = (g ≤ groups) × RowPicked i size coeffs g picks₀ picks
 
 abbrev μ-loop : tie.MeasureT-loop
-μ-loop picks₀ groups size i coeffs spreads g₀ picks g = groups - g
+μ-loop picks₀ groups size i coeffs g₀ picks g = groups - g
 
 loop-holds : tie.Need-loop-holds Inv-loop μ-loop
 loop-holds c = (omega arith, row-none _ _ _ _)
 
 -- a group begins within the coefficients, and its picks end within the picks
 module _ (c : tie.In-loop Inv-loop μ-loop) where
-  begins : c .before .loop .g * c .before .before .before .before .before .args .size ≤ length (now (c .before .before .before .before .before .args .coeffs))
-  begins = c .before .before .before .before .before .pre .0 .begins (c .before .loop .g) (omega arith)
+  begins : c .before .loop .g * c .before .before .before .before .args .size ≤ length (now (c .before .before .before .before .args .coeffs))
+  begins = c .before .before .before .before .pre .0 .begins (c .before .loop .g) (omega arith)
 
-  room : c .before .loop .g * 256 + c .before .before .before .before .before .args .i * 8 + 8 ≤ length (c .before .loop .picks)
-  room = omega (arith, c .before .before .before .before .before .pre .1 .0 .1 (c .before .loop .g) (omega arith), c .before .loop .inv .1 .same)
+  room : c .before .loop .g * 256 + c .before .before .before .before .args .i * 8 + 8 ≤ length (c .before .loop .picks)
+  room = omega (arith, c .before .before .before .before .pre .1 .1 (c .before .loop .g) (omega arith), c .before .loop .inv .1 .same)
 
 mul-j : tie.Need-mul-j Inv-loop μ-loop
 mul-j c = omega (arith, begins c)
@@ -40,14 +40,14 @@ shorter-requires c κs = search needs
 
 -- it has at most five columns, and ends within the coefficients
 module _ (c : tie.After-shorter Inv-loop μ-loop) where
-  group-ends : c .before .before .loop .g * c .before .before .before .before .before .before .args .size + c .shorter .result ≤ length (now (c .before .before .before .before .before .before .args .coeffs))
+  group-ends : c .before .before .loop .g * c .before .before .before .before .before .args .size + c .shorter .result ≤ length (now (c .before .before .before .before .before .args .coeffs))
   group-ends = omega (arith, begins (c .before))
 
-  count : c .shorter .result ≡ columns (c .before .before .before .before .before .before .args .size) (length (now (c .before .before .before .before .before .before .args .coeffs))) (c .before .before .loop .g)
+  count : c .shorter .result ≡ columns (c .before .before .before .before .before .args .size) (length (now (c .before .before .before .before .before .args .coeffs))) (c .before .before .loop .g)
   count = columns-are _ _ _ _ (c .shorter .ensures .0) (c .shorter .ensures .1 .0) (c .shorter .ensures .1 .1)
 
   few : c .shorter .result ≤ 5
-  few = omega (arith, c .before .before .before .before .before .before .pre .0 .few)
+  few = omega (arith, c .before .before .before .before .before .pre .0 .few)
 
 add-end : tie.Need-add-end Inv-loop μ-loop
 add-end c = omega (arith, group-ends c)
@@ -63,9 +63,9 @@ part-word-of-end c = group-ends c
 
 word-of-requires : tie.Need-word-of-requires Inv-loop μ-loop
 word-of-requires c κs =
-    let s = c .before .before .before .before .before .before .before in
+    let s = c .before .before .before .before .before .before in
     let r = c .before .shorter .result in
-    (subst⁻¹ (λ (k : ℕ). k ≤ 5) (length-stretch (c .before .before .before .loop .g * s .args .size) r (now (s .args .coeffs)) (group-ends (c .before))) (few (c .before)), s .pre .1 .1)
+    subst⁻¹ (λ (k : ℕ). k ≤ 5) (length-stretch (c .before .before .before .loop .g * s .args .size) r (now (s .args .coeffs)) (group-ends (c .before))) (few (c .before))
 
 mul-at : tie.Need-mul-at Inv-loop μ-loop
 mul-at c = omega (arith, room (c .before .before .before))
@@ -89,7 +89,7 @@ part-put-word-end : tie.Need-part-put-word-end Inv-loop μ-loop
 part-put-word-end c = room (c .before .before .before)
 
 put-word-requires : tie.Need-put-word-requires Inv-loop μ-loop
-put-word-requires c κs = length-stretch (c .before .before .before .before .before .loop .g * 256 + c .before .before .before .before .before .before .before .before .before .args .i * 8) 8 (c .before .before .before .before .before .loop .picks) (room (c .before .before .before .before))
+put-word-requires c κs = length-stretch (c .before .before .before .before .before .loop .g * 256 + c .before .before .before .before .before .before .before .before .args .i * 8) 8 (c .before .before .before .before .before .loop .picks) (room (c .before .before .before .before))
 
 add-g : tie.Need-add-g Inv-loop μ-loop
 add-g c = search needs
@@ -99,10 +99,10 @@ loop-less c = search needs
 
 loop-again : tie.Need-loop-again Inv-loop μ-loop
 loop-again c =
-    let s = c .before .before .before .before .before .before .before .before .before .before .before .before in
+    let s = c .before .before .before .before .before .before .before .before .before .before .before in
     let l = c .before .before .before .before .before .before .before .before .loop in
     let a = c .before .before .before .before .before .before in
-    (omega arith, row-more (s .args .i) (s .args .size) (now (s .args .coeffs)) (l .g) (a .shorter .result) (c .before .before .before .before .word-of .result) _ (l .picks) _ (s .pre .1 .0 .0) (room (c .before .before .before .before .before .before .before)) (few a) (group-ends a) (count a) (c .before .before .before .before .word-of .ensures) (c .before .before .put-word .ensures) (l .inv .1))
+    (omega arith, row-more (s .args .i) (s .args .size) (now (s .args .coeffs)) (l .g) (a .shorter .result) (c .before .before .before .before .word-of .result) _ (l .picks) _ (s .pre .1 .0) (room (c .before .before .before .before .before .before .before)) (few a) (group-ends a) (count a) (c .before .before .before .before .word-of .ensures) (c .before .before .put-word .ensures) (l .inv .1))
 
 same-length : tie.Need-same-length Inv-loop μ-loop
 same-length c = c .before .loop .inv .1 .same
@@ -110,7 +110,7 @@ same-length c = c .before .loop .inv .1 .same
 returns : tie.Need-returns Inv-loop μ-loop
 returns c =
     let l = c .before .loop in
-    let s = c .before .before .before .before .before .args in
+    let s = c .before .before .before .before .args in
     subst (λ (n : ℕ). RowPicked (s .i) (s .size) (now (s .coeffs)) n (now (s .picks)) (l .picks)) (omega arith) (l .inv .1)
 
 pub fill-row-spec : {M : Type 1} → statement M

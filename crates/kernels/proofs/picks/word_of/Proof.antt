@@ -11,18 +11,18 @@ use Rattle.kernels.proofs.picks.word_of.Statement.{statement}
 use Rattle.kernels.proofs.picks.word_of.Tie as tie
 
 abbrev Inv-loop : tie.InvT-loop
-Inv-loop coeffs spreads word₀ k₀ word k = (k ≤ length coeffs) × (word ≡ wordOf 8 (firstPicks coeffs k))
+Inv-loop coeffs word₀ k₀ word k = (k ≤ length coeffs) × (word ≡ wordOf 8 (firstPicks coeffs k))
 
 abbrev μ-loop : tie.MeasureT-loop
-μ-loop coeffs spreads word₀ k₀ word k = length coeffs - k
+μ-loop coeffs word₀ k₀ word k = length coeffs - k
 
 loop-holds : tie.Need-loop-holds Inv-loop μ-loop
-loop-holds c = (omega arith, picks-none (now (c .before .before .args .coeffs)))
+loop-holds c = (omega arith, picks-none (now (c .before .args .coeffs)))
 
 mul-word : tie.Need-mul-word Inv-loop μ-loop
 mul-word c =
     let l = c .before .loop in
-    let coeffs = now (c .before .before .before .before .args .coeffs) in
+    let coeffs = now (c .before .before .before .args .coeffs) in
     omega (arith, l .inv .1, picks-more coeffs (l .k), picks-fit coeffs (l .k + 1) (omega arith))
 
 shared-slice-read-spread : tie.Need-shared-slice-read-spread Inv-loop μ-loop
@@ -34,7 +34,7 @@ spread-requires c κs = search needs
 add-word : tie.Need-add-word Inv-loop μ-loop
 add-word c =
     let l = c .before .before .before .loop in
-    let coeffs = now (c .before .before .before .before .before .before .args .coeffs) in
+    let coeffs = now (c .before .before .before .before .before .args .coeffs) in
     omega (arith, l .inv .1, c .spread .ensures, picks-more coeffs (l .k), picks-fit coeffs (l .k + 1) (omega arith))
 
 add-k : tie.Need-add-k Inv-loop μ-loop
@@ -46,11 +46,11 @@ loop-less c = search needs
 loop-again : tie.Need-loop-again Inv-loop μ-loop
 loop-again c =
     let l = c .before .before .before .loop in
-    (omega arith, ap₂ (λ (x y : ℕ). x * 2 + y) (l .inv .1) (c .spread .ensures) ∙ picks-more (now (c .before .before .before .before .before .before .args .coeffs)) (l .k))
+    (omega arith, ap₂ (λ (x y : ℕ). x * 2 + y) (l .inv .1) (c .spread .ensures) ∙ picks-more (now (c .before .before .before .before .before .args .coeffs)) (l .k))
 
 returns : tie.Need-returns Inv-loop μ-loop
 unfolding pickOf
-returns c = c .before .loop .inv .1 ∙ ap (λ (n : ℕ). wordOf 8 (firstPicks (now (c .before .before .before .before .args .coeffs)) n)) (omega arith)
+returns c = c .before .loop .inv .1 ∙ ap (λ (n : ℕ). wordOf 8 (firstPicks (now (c .before .before .before .args .coeffs)) n)) (omega arith)
 
 pub word-of-spec : {M : Type 1} → statement M
 word-of-spec =
