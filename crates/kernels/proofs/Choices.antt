@@ -44,22 +44,30 @@ tile-byte b at src places bytes k p = bytes (getD places k 0 * b + (at + p))
 past : (l : List ℕ) (p : ℕ) → length l ≤ p → getD l p 0 ≡ 0
 past l p h = ap (λ (m : List ℕ). getD m p 0) (sym (tabulate-getD (length l) l refl)) ∙ getD-tabulate-past (length l) _ p h
 
--- xs plus a copy of ys with zeros behind it
-pub plus-copy : (n : ℕ) (xs ys copy : List ℕ) → length ys ≤ n → copy ≡ over (replicate n 0) ys → plus xs copy ≡ plus xs ys
-unfolding plus
-plus-copy n xs ys copy h e = tabulate-ext (length xs) _ _ (λ p hp. ap (add (getD xs p 0)) (ap (λ (l : List ℕ). getD l p 0) e ∙ byte p))
+-- a copy of ys with zeros behind it
+pub copy-at : (n : ℕ) (ys copy : List ℕ) → length ys ≤ n → copy ≡ over (replicate n 0) ys → (p : ℕ) → getD copy p 0 ≡ getD ys p 0
+copy-at n ys copy h e p =
+    ap (λ (l : List ℕ). getD l p 0) e
+    ∙ ⊎-elim (λ (lt : p < length ys). over-at (replicate n 0) ys p (omega (arith, size)) lt)
+    (λ (le : length ys ≤ p). ⊎-elim
+    (λ (lt : p < n). over-past (replicate n 0) ys p (omega (arith, size)) le ∙ zeros-at n p)
+    (λ (ge : n ≤ p). past (over (replicate n 0) ys) p (omega (arith, size, over-length (replicate n 0) ys)))
+    (lt-or p n) ∙ sym (past ys p le))
+    (lt-or p (length ys))
   where
     size : length (replicate {A = ℕ} n 0) ≡ n
     size = length-replicate {A = ℕ} n 0
 
-    byte : (p : ℕ) → getD (over (replicate n 0) ys) p 0 ≡ getD ys p 0
-    byte p =
-        ⊎-elim (λ (lt : p < length ys). over-at (replicate n 0) ys p (omega (arith, size)) lt)
-        (λ (le : length ys ≤ p). ⊎-elim
-        (λ (lt : p < n). over-past (replicate n 0) ys p (omega (arith, size)) le ∙ zeros-at n p)
-        (λ (ge : n ≤ p). past (over (replicate n 0) ys) p (omega (arith, size, over-length (replicate n 0) ys)))
-        (lt-or p n) ∙ sym (past ys p le))
-        (lt-or p (length ys))
+-- xs plus such a copy
+pub plus-copy : (n : ℕ) (xs ys copy : List ℕ) → length ys ≤ n → copy ≡ over (replicate n 0) ys → plus xs copy ≡ plus xs ys
+unfolding plus
+plus-copy n xs ys copy h e = tabulate-ext (length xs) _ _ (λ p hp. ap (add (getD xs p 0)) (copy-at n ys copy h e p))
+
+-- zeros plus ys
+pub zeros-plus : (n : ℕ) (ys copy : List ℕ) → copy ≡ plus (replicate n 0) ys → (p : ℕ) → p < n → getD copy p 0 ≡ getD ys p 0
+zeros-plus n ys copy e p h =
+    ap (λ (l : List ℕ). getD l p 0) e ∙ plus-at (replicate n 0) ys p (omega (arith, length-replicate {A = ℕ} n 0))
+    ∙ ap (λ (x : ℕ). add x (getD ys p 0)) (getD-replicate n p 0 0 h) ∙ add-zero-left (getD ys p 0)
 
 -- ---- entry m plus a tile, as the code makes it
 
@@ -74,10 +82,10 @@ pub raised-none : (t half : ℕ) (part old : List ℕ) → Raised t half 0 part 
 raised-none t half part old = record { same = refl; lower = λ n p hn hp. refl; upper = λ m p hm. absurd (omega arith) }
 
 -- a table of n entries of t bytes
-module _ (t n half : ℕ) (part old : List ℕ) (room : length old ≡ n * t) (fits : half + half ≤ n) where
-  pub raised-more : (k : ℕ) (new tile last : List ℕ) → k < half → tile ≡ plus (replicate t 0) part
-      → last ≡ putBlock t (half + k) new (plus (partOf t k new) tile) → Raised t half k part old new → Raised t half (k + 1) part old last
-  raised-more k new tile last hk et e s = subst⁻¹ (Raised t half (k + 1) part old) e more
+module _ (t n half : ℕ) (tile old : List ℕ) (room : length old ≡ n * t) (fits : half + half ≤ n) where
+  pub raised-more : (k : ℕ) (new last : List ℕ) → k < half → last ≡ putBlock t (half + k) new (plus (partOf t k new) tile) → Raised t half k tile old new
+      → Raised t half (k + 1) tile old last
+  raised-more k new last hk e s = subst⁻¹ (Raised t half (k + 1) tile old) e more
     where
       sum : List ℕ
       sum = plus (partOf t k new) tile
@@ -91,29 +99,30 @@ module _ (t n half : ℕ) (part old : List ℕ) (room : length old ≡ n * t) (f
       full : length sum ≡ t
       full = plus-length (partOf t k new) tile ∙ within
 
-      tile-at : (p : ℕ) → p < t → getD tile p 0 ≡ getD part p 0
-      tile-at p hp =
-          ap (λ (l : List ℕ). getD l p 0) et ∙ plus-at (replicate t 0) part p (omega (arith, length-replicate {A = ℕ} t 0))
-          ∙ ap (λ (x : ℕ). add x (getD part p 0)) (getD-replicate t p 0 0 hp) ∙ add-zero-left (getD part p 0)
-
       other : (m p : ℕ) → (m ≡ half + k → ⊥) → p < t → cell t (putBlock t (half + k) new sum) m p ≡ cell t new m p
       other m p ne hp = putBlock-other t n (half + k) new sum (omega arith) (omega (arith, s .same)) full m p ne hp
 
-      here : (p : ℕ) → p < t → cell t (putBlock t (half + k) new sum) (half + k) p ≡ add (cell t old k p) (getD part p 0)
+      here : (p : ℕ) → p < t → cell t (putBlock t (half + k) new sum) (half + k) p ≡ add (cell t old k p) (getD tile p 0)
       here p hp =
           putBlock-here t n (half + k) new sum (omega arith) (omega (arith, s .same)) full p hp ∙ plus-at (partOf t k new) tile p (omega (arith, within))
-          ∙ ap₂ add (partOf-at t k new p hp ∙ s .lower k p hk hp) (tile-at p hp)
+          ∙ ap (λ (x : ℕ). add x (getD tile p 0)) (partOf-at t k new p hp ∙ s .lower k p hk hp)
 
-      more : Raised t half (k + 1) part old (putBlock t (half + k) new sum)
+      more : Raised t half (k + 1) tile old (putBlock t (half + k) new sum)
       more =
           record {
             same = putBlock-length t n (half + k) new sum (omega arith) (omega (arith, s .same)) full ∙ s .same;
             lower = λ m p hm hp. other m p (λ x. omega arith) hp ∙ s .lower m p hm hp;
             upper = λ m p hm hp.
                 ⊎-elim
-                (λ (x : m ≡ k). ap (λ (j : ℕ). cell t (putBlock t (half + k) new sum) (half + j) p) x ∙ here p hp ∙ ap (λ (j : ℕ). add (cell t old j p) (getD part p 0)) (sym x))
+                (λ (x : m ≡ k). ap (λ (j : ℕ). cell t (putBlock t (half + k) new sum) (half + j) p) x ∙ here p hp ∙ ap (λ (j : ℕ). add (cell t old j p) (getD tile p 0)) (sym x))
                 (λ ne. other (half + m) p (λ x. ne (omega arith)) hp ∙ s .upper m p (omega arith) hp) (eq-or m k);
           }
+
+-- by a part with the same bytes
+pub raised-same : (t half k : ℕ) (tile part old new : List ℕ) → ((p : ℕ) → p < t → getD tile p 0 ≡ getD part p 0) → Raised t half k tile old new
+    → Raised t half k part old new
+raised-same t half k tile part old new e r =
+    record { same = r .same; lower = r .lower; upper = λ m p hm hp. r .upper m p hm hp ∙ ap (add (cell t old m p)) (e p hp) }
 
 -- ---- one column more, in front of those that the table has
 

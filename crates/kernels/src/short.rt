@@ -62,16 +62,28 @@ fn fill_short(table: &mut [u8], b: usize, at: usize, w: usize, src: &[u8], place
     }
 }
 
-// Entries half to 2·half - 1: each entry below half, plus the column. A byte that the column does not have counts as 00.
+// Entries half to 2·half - 1: each entry below half, plus the column. A byte that the column does not have counts as 00; a column of a whole tile needs no copy.
 fn add_short_column(table: &mut [u8], half: usize, part: &[u8])
     requires { ⌜ (length (now table) ≡ 256) × (half ≤ 8) × (length (now part) ≤ 16) ⌝ }
     ensures { λ _. ⌜ Raised 16 half half (now (part .entry)) (now (table .entry)) (now (table .exit)) ⌝ }
 {
+    if part.len() == 16 {
+        raise_short(table, half, part);
+        return;
+    }
     let mut tile = [0u8; 16];
-    add_part(&mut tile, part);
+    copy_block(&mut tile, part);
+    raise_short(table, half, &tile);
+}
+
+// The same of a whole tile.
+fn raise_short(table: &mut [u8], half: usize, tile: &[u8])
+    requires { ⌜ (length (now table) ≡ 256) × (half ≤ 8) × (length (now tile) ≡ 16) ⌝ }
+    ensures { λ _. ⌜ Raised 16 half half (now (tile .entry)) (now (table .entry)) (now (table .exit)) ⌝ }
+{
     let mut m = 0;
     while m < half {
-        set_short_sum(table, half + m, m, &tile);
+        set_short_sum(table, half + m, m, tile);
         m += 1;
     }
 }

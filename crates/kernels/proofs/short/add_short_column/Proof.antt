@@ -1,76 +1,48 @@
--- After m turns the entries below half + m are there. Assumes nothing.
-use mathlib.Core.Path.{subst}
-use Prim.Native.Nat.{ℕ, _-_, _≤_}
-use denote.Ref.{now}
-use native.Mathlib.Omega.{arith}
+-- The zeros behind a copy of the part are the bytes that the part does not have. Assumes nothing.
 use borrow.Author.Needs.{needs}
-use Rattle.kernels.specs.Tiling.{Raised}
-use Rattle.kernels.proofs.Choices.{raised-none, raised-more}
+use Rattle.kernels.proofs.Choices.{copy-at, raised-same}
 use Rattle.kernels.proofs.short.add_short_column.Statement.{statement}
 use Rattle.kernels.proofs.short.add_short_column.Tie as tie
 
-abbrev Inv-loop : tie.InvT-loop
-Inv-loop table₀ half part tile m₀ table m = (m ≤ half) × Raised 16 half m part table₀ table
+raise-short-requires : tie.Need-raise-short-requires
+raise-short-requires c κs = search needs
 
-abbrev μ-loop : tie.MeasureT-loop
-μ-loop table₀ half part tile m₀ table m = half - m
+same-length : tie.Need-same-length
+same-length c = search needs
 
-slice-aggregate-add-part : tie.Need-slice-aggregate-add-part Inv-loop μ-loop
-slice-aggregate-add-part c = search needs
+returns : tie.Need-returns
+returns c = search needs
 
-add-part-requires : tie.Need-add-part-requires Inv-loop μ-loop
-add-part-requires c κs = omega arith
+slice-aggregate-copy-block : tie.Need-slice-aggregate-copy-block
+slice-aggregate-copy-block c = search needs
 
-loop-holds : tie.Need-loop-holds Inv-loop μ-loop
-loop-holds c = (omega arith, raised-none _ _ _ _)
+copy-block-requires : tie.Need-copy-block-requires
+copy-block-requires c κs = search needs
 
-add-set-short-sum : tie.Need-add-set-short-sum Inv-loop μ-loop
-add-set-short-sum c = search needs
+slice-aggregate-raise-short : tie.Need-slice-aggregate-raise-short
+slice-aggregate-raise-short c = search needs
 
-slice-aggregate-set-short-sum : tie.Need-slice-aggregate-set-short-sum Inv-loop μ-loop
-slice-aggregate-set-short-sum c = search needs
+raise-short-requires-2 : tie.Need-raise-short-requires-2
+raise-short-requires-2 c κs = search needs
 
-set-short-sum-requires : tie.Need-set-short-sum-requires Inv-loop μ-loop
-set-short-sum-requires c κs = ((omega (arith, c .before .before .before .loop .inv .1 .same), omega (arith, c .before .before .before .loop .inv .1 .same)), search needs)
+same-length-2 : tie.Need-same-length-2
+same-length-2 c = search needs
 
-add-m : tie.Need-add-m Inv-loop μ-loop
-add-m c = search needs
-
-loop-less : tie.Need-loop-less Inv-loop μ-loop
-loop-less c = search needs
-
-loop-again : tie.Need-loop-again Inv-loop μ-loop
-loop-again c =
-    let s = c .before .before .before .before .before .before .before .before .before .before .before .before in
-    let l = c .before .before .before .before .before .before .loop in (
-      omega arith,
-      raised-more 16 16 (s .args .half) (now (s .args .part)) (now (s .args .table)) (s .pre .0) (omega arith) (l .m) (l .table) _ _ (omega arith)
-          (c .before .before .before .before .before .before .before .before .add-part .ensures) (c .before .before .set-short-sum .ensures) (l .inv .1),
-    )
-
-same-length : tie.Need-same-length Inv-loop μ-loop
-same-length c = c .before .loop .inv .1 .same
-
-returns : tie.Need-returns Inv-loop μ-loop
-returns c =
-    let l = c .before .loop in
-    let s = c .before .before .before .before .before .before .before .args in
-    subst (λ (t : ℕ). Raised 16 (s .half) t (now (s .part)) (now (s .table)) (l .table)) (omega arith) (l .inv .1)
+returns-2 : tie.Need-returns-2
+returns-2 c =
+    raised-same 16 _ _ _ _ _ _ (λ p hp. copy-at 16 _ _ (c .before .before .before .before .before .before .before .before .before .before .before .pre .2) (c .before .before .before .before .before .before .copy-block .ensures) p)
+    (c .before .before .raise-short2 .ensures)
 
 pub add-short-column-spec : {M : Type 1} → statement M
 add-short-column-spec =
     tie.close
     (tie.spec
-    Inv-loop
-    μ-loop
-    slice-aggregate-add-part
-    add-part-requires
-    loop-holds
-    add-set-short-sum
-    slice-aggregate-set-short-sum
-    set-short-sum-requires
-    add-m
-    loop-less
-    loop-again
+    raise-short-requires
     same-length
-    returns)
+    returns
+    slice-aggregate-copy-block
+    copy-block-requires
+    slice-aggregate-raise-short
+    raise-short-requires-2
+    same-length-2
+    returns-2)

@@ -5,12 +5,12 @@ use denote.Ref.{now}
 use native.Mathlib.Omega.{arith}
 use borrow.Author.Needs.{needs}
 use Rattle.kernels.specs.Tiling.{Raised}
-use Rattle.kernels.proofs.Choices.{raised-none, raised-more}
+use Rattle.kernels.proofs.Choices.{zeros-plus, raised-none, raised-more, raised-same}
 use Rattle.kernels.proofs.tables.add_column.Statement.{statement}
 use Rattle.kernels.proofs.tables.add_column.Tie as tie
 
 abbrev Inv-loop : tie.InvT-loop
-Inv-loop table₀ half part tile m₀ table m = (m ≤ half) × Raised 64 half m part table₀ table
+Inv-loop table₀ half part tile m₀ table m = (m ≤ half) × Raised 64 half m tile table₀ table
 
 abbrev μ-loop : tie.MeasureT-loop
 μ-loop table₀ half part tile m₀ table m = half - m
@@ -44,8 +44,7 @@ loop-again c =
     let s = c .before .before .before .before .before .before .before .before .before .before .before .before in
     let l = c .before .before .before .before .before .before .loop in (
       omega arith,
-      raised-more 64 32 (s .args .half) (now (s .args .part)) (now (s .args .table)) (s .pre .0) (omega arith) (l .m) (l .table) _ _ (omega arith)
-          (c .before .before .before .before .before .before .before .before .add-part .ensures) (c .before .before .set-sum .ensures) (l .inv .1),
+      raised-more 64 32 (s .args .half) _ (now (s .args .table)) (s .pre .0) (omega arith) (l .m) (l .table) _ (omega arith) (c .before .before .set-sum .ensures) (l .inv .1),
     )
 
 same-length : tie.Need-same-length Inv-loop μ-loop
@@ -55,7 +54,8 @@ returns : tie.Need-returns Inv-loop μ-loop
 returns c =
     let l = c .before .loop in
     let s = c .before .before .before .before .before .before .before .args in
-    subst (λ (t : ℕ). Raised 64 (s .half) t (now (s .part)) (now (s .table)) (l .table)) (omega arith) (l .inv .1)
+    subst (λ (t : ℕ). Raised 64 (s .half) t (now (s .part)) (now (s .table)) (l .table)) (omega arith)
+    (raised-same 64 _ _ _ _ _ _ (zeros-plus 64 _ _ (c .before .before .before .add-part .ensures)) (l .inv .1))
 
 pub add-column-spec : {M : Type 1} → statement M
 add-column-spec =
