@@ -121,14 +121,14 @@ fn add_fitting(
     tiles::add_tiled(out, targets, b, src, places, coeffs, stride);
 }
 
-// Whether a product goes in short tiles: several rows of few bytes, and room for 16 rows and four columns.
+// Whether a product goes in short tiles: several rows of few bytes, and room for eight rows and four columns.
 fn prefers_short(rows: usize, b: usize, width: usize) -> bool
-    ensures { λ r. ⌜ (r ≡ true → (rows ≤ 16) × (width ≤ 4)) ⌝ }
+    ensures { λ r. ⌜ (r ≡ true → (rows ≤ 8) × (width ≤ 4)) ⌝ }
 {
     if rows < 2 {
         return false;
     }
-    if 16 < rows {
+    if 8 < rows {
         return false;
     }
     if 4 < width {

@@ -1,4 +1,4 @@
-// A product as in `tiles`, but in tiles of 16 bytes, for few short blocks: at most four columns, which are one group, so that the table is small, and at most 16 rows.
+// A product as in `tiles`, but in tiles of 16 bytes, for few short blocks: at most four columns, which are one group, so that the table is small, and at most eight rows.
 use crate::picks::fill_picks;
 use crate::tables::add_part;
 use crate::tables::add_tile;
@@ -16,7 +16,7 @@ ghost use Rattle.blocks.specs.Bytes.{plus};
 ghost use Rattle.kernels.specs.Blocks.{Inside, Fits, Added};
 ghost use Rattle.kernels.specs.Tiling.{tileAt, byBits, Raised, Chosen, Reached, Spanned};
 
-// out += a product of at most 16 rows and four columns.
+// out += a product of at most eight rows and four columns.
 pub(crate) fn add_short(
     out: &mut [u8],
     targets: &[u8],
@@ -27,11 +27,11 @@ pub(crate) fn add_short(
     stride: usize,
 )
     requires { ⌜ Fits b stride (now targets) (now places) (length (now src)) (length (now coeffs)) (length (now out)) ⌝ }
-    requires { ⌜ (length (now targets) ≤ 16) × (length (now places) ≤ 4) ⌝ }
+    requires { ⌜ (length (now targets) ≤ 8) × (length (now places) ≤ 4) ⌝ }
     ensures { λ _. ⌜ Added b stride (now (src .entry)) (now (targets .entry)) (now (places .entry)) (now (coeffs .entry)) (now (out .entry)) (now (out .exit)) ⌝ }
 {
     let mut table = [0u8; 256];
-    let mut picks = [0u8; 128];
+    let mut picks = [0u8; 64];
     let width = places.len();
     fill_picks(&mut picks, 1, width, targets.len(), width, coeffs, stride);
     let mut at = 0;

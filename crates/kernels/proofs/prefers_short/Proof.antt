@@ -1,4 +1,4 @@
--- Each early answer is no; at the last there are at most 16 rows and four columns. Assumes nothing.
+-- Each early answer is no; at the last there are at most eight rows and four columns. Assumes nothing.
 use mathlib.Core.Bool.{false≢true}
 use Prim.Native.Nat.{ℕ, _*_, _^_, _≤_, _<_}
 use native.Mathlib.Nat.{mul-le-mul-right}
@@ -7,7 +7,7 @@ use Rattle.kernels.proofs.prefers_short.Statement.{statement}
 use Rattle.kernels.proofs.prefers_short.Tie as tie
 
 -- few rows of few bytes
-small : (rows b : ℕ) → rows ≤ 16 → b ≤ 512 → rows * b < 2 ^ 64
+small : (rows b : ℕ) → rows ≤ 8 → b ≤ 512 → rows * b < 2 ^ 64
 small rows b hr hb = omega (arith, mul-le-mul-right b hr)
 
 returns : tie.Need-returns

@@ -26,7 +26,7 @@ slice-aggregate-fill-picks c = search needs
 fill-picks-requires : tie.Need-fill-picks-requires Inv-loop μ-loop
 fill-picks-requires c κs =
     let s = c .before .before .before .before .before .before in
-    (one-group _ (omega arith), ((omega arith, λ g i hg hi. omega (arith, length-replicate {A = ℕ} 128 0)), s .pre .0 .row))
+    (one-group _ (omega arith), ((omega arith, λ g i hg hi. omega (arith, length-replicate {A = ℕ} 64 0)), s .pre .0 .row))
 
 loop-holds : tie.Need-loop-holds Inv-loop μ-loop
 loop-holds c = (omega arith, refl, tiled-none _ _ _, omega arith)
