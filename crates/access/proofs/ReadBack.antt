@@ -3,7 +3,7 @@
 use mathlib.Core.Path.{_≡_, sym, ap, _∙_, subst}
 use mathlib.Core.List.{List, _++_}
 use Prim.Native.Nat.{ℕ, suc, _*_, _^_, _≤_, _<_}
-use native.Mathlib.Nat.{le-refl, mul-le-mul-right}
+use native.Mathlib.Nat.{le-refl}
 use native.Mathlib.Omega.{arith}
 use lib.ListN.{length, getD, take, replicate, length-append, length-replicate}
 use Rattle.base.specs.Seq.{cell}
@@ -41,27 +41,26 @@ module _ (a : Params) (from out : ℕ) (word : from < 2 ^ 32) (codeword : List �
         ∙ ap (λ (c : ℕ). evaluate (a .k) (slackParts a) (λ j. cell (a .b) x j p) (λ j. cell (a .b) v j p) (point c)) (sym (g .2))
 
     -- so a row takes the blocks read to a part of the message
-    part-read : (rows : List ℕ) → Reads from rows → (j p : ℕ) → j < a .k → p < a .b
+    part-read : (rows : List ℕ) → Reads (a .k) from rows → (j p : ℕ) → j < a .k → p < a .b
         → sum (size from) (λ o. mul (cell (size from) rows j o) (cell (a .b) codeword (getD (placesOf from) o 0) p)) ≡ cell (a .b) x j p
     unfolding working
     part-read rows reads j p hj hp =
         sum-ext (size from) _ _ (λ o ho. ap (mul (cell (size from) rows j o)) (value p o hp ho))
-        ∙ reads .takes (a .k) (slackParts a) (λ j. cell (a .b) x j p) (λ j. cell (a .b) v j p) (working-is a (ok .valid) ∙ sym (ok .from-size))
+        ∙ reads .takes (slackParts a) (λ j. cell (a .b) x j p) (λ j. cell (a .b) v j p) (working-is a (ok .valid) ∙ sym (ok .from-size))
         (λ j. cell-byte (a .b) x j p (gives .pair .message .bytes)) (λ j. cell-byte (a .b) v j p (gives .pair .slack .bytes)) j hj
 
   -- q is the set's size as the code counts it
   pub decoded : (q : ℕ) (places order rows rest old new : List ℕ) → old ≡ replicate out 0 → Bytes codeword → q ≡ size from → places ≡ placesOf from → order ≡ inOrder
-      → length rows ≡ q * q → Reads from rows → Added (a .b) q codeword (take (a .k) order) (take q places) (rows ++ rest) old new → Decoded a codeword from new
-  decoded q places order rows rest old new cleared bytes hq hp ordered square reads made =
+      → length rows ≡ a .k * q → Reads (a .k) from rows → Added (a .b) q codeword (take (a .k) order) (take q places) (rows ++ rest) old new → Decoded a codeword from new
+  decoded q places order rows rest old new cleared bytes hq hp ordered full reads made =
       let v = ok .valid in
-      let k : a .k ≤ q = omega (arith, ok .from-size, v .shape .k-le-r) in
-      let few : a .k ≤ 32 = omega (arith, size-most from word) in
+      let few : a .k ≤ 32 = omega (arith, ok .from-size, v .shape .k-le-r, size-most from word) in
       let targets : length (take (a .k) order) ≡ a .k = first-length order ordered (a .k) few in
       let room : length old ≡ a .k * a .b = ap length cleared ∙ length-replicate {A = ℕ} out 0 ∙ ok .out-length in
       let fits : Fits (a .b) q (take (a .k) order) (take q places) (length codeword) (length (rows ++ rest)) (length old) =
       product-fits (a .b) q (length codeword) (length (rows ++ rest)) (length old) (take (a .k) order) (take q places) (v .b-low)
       (first-inside order ordered (a .k) few (a .b) (a .k) (length old) (le-refl (a .k)) (omega (arith, room))) (omega (arith, placed-length from word places hp q hq))
-      (omega (arith, ap (λ (m : ℕ). m * q) targets, mul-le-mul-right q k, length-append rows rest))
+      (omega (arith, ap (λ (m : ℕ). m * q) targets, full, length-append rows rest))
       (placed-inside from word places hp q hq (a .b) (a .n) (length codeword) (within-has (a .n) from word .0 (ok .from-within))
       (omega (arith, ok .codeword-length))) in
       let g = pair-exists a v (has from) (from-reads a from v (ok .from-within) (ok .from-size)) codeword bytes in
@@ -72,7 +71,7 @@ module _ (a : Params) (from out : ℕ) (word : from < 2 ^ 32) (codeword : List �
       fits made out cleared j p (omega (arith, targets)) hb
       ∙ product-placed from word places hp q hq (a .b) q codeword (rows ++ rest) j p
       ∙ sum-ext q _ _
-      (λ o ho. ap (λ (y : ℕ). mul y (cell (a .b) codeword (getD (placesOf from) o 0) p)) (cell-front q q rows rest square j o (omega arith) ho))
+      (λ o ho. ap (λ (y : ℕ). mul y (cell (a .b) codeword (getD (placesOf from) o 0) p)) (cell-front q (a .k) rows rest full j o hj ho))
       ∙ ap (λ (m : ℕ). sum m (λ o. mul (cell m rows j o) (cell (a .b) codeword (getD (placesOf from) o 0) p))) hq
       ∙ part-read (g .0) (g .1) (g .2) rows reads j p hj hb) in
       record { slack = g .1; gives = subst (λ (x : List ℕ). Gives a x (g .1) (has from) codeword) (sym same) (g .2) }

@@ -25,13 +25,12 @@ pub fn decode(a: Params, codeword: &[u8], from: NodeSet, out: &mut [u8]) -> u32
     0
 }
 
-// An accepted call: makes room for the rows that take the blocks read to message and slack, no more than is wanted.
+// An accepted call: makes room for the rows that take the blocks read to the message, no more than is wanted.
 fn decode_parts(a: Params, codeword: &[u8], from: NodeSet, out: &mut [u8])
     requires { ⌜ DecodeAccepted a (length (now codeword)) (length (now out)) (from .0) ⌝ }
     ensures { λ _. ⌜ Decoded a (now (codeword .entry)) (from .0) (now (out .exit)) ⌝ }
 {
-    let q = from.size();
-    if q * q <= 128 {
+    if a.k * from.size() <= 128 {
         decode_narrow(a, codeword, from, out);
         return;
     }
@@ -40,7 +39,7 @@ fn decode_parts(a: Params, codeword: &[u8], from: NodeSet, out: &mut [u8])
 
 fn decode_narrow(a: Params, codeword: &[u8], from: NodeSet, out: &mut [u8])
     requires { ⌜ DecodeAccepted a (length (now codeword)) (length (now out)) (from .0) ⌝ }
-    requires { ⌜ size (from .0) * size (from .0) ≤ 128 ⌝ }
+    requires { ⌜ a .k * size (from .0) ≤ 128 ⌝ }
     ensures { λ _. ⌜ Decoded a (now (codeword .entry)) (from .0) (now (out .exit)) ⌝ }
 {
     let mut rows = [0u8; 128];
@@ -55,20 +54,29 @@ fn decode_wide(a: Params, codeword: &[u8], from: NodeSet, out: &mut [u8])
     decode_within(a, codeword, from, &mut rows, out);
 }
 
-// The same, with room for the rows; the first of them are the message's.
+// The same, with room for the rows. Codeword and rows are lent anew, for the reason that `encode_within` gives.
 fn decode_within(a: Params, codeword: &[u8], from: NodeSet, rows: &mut [u8], out: &mut [u8])
     requires { ⌜ DecodeAccepted a (length (now codeword)) (length (now out)) (from .0) ⌝ }
-    requires { ⌜ size (from .0) * size (from .0) ≤ length (now rows) ⌝ }
+    requires { ⌜ a .k * size (from .0) ≤ length (now rows) ⌝ }
     ensures { λ _. ⌜ Decoded a (now (codeword .entry)) (from .0) (now (out .exit)) ⌝ }
 {
     let k = a.k;
     let b = a.b;
     let q = from.size();
-    let area = q * q;
+    let area = k * q;
     let mut places = [0u8; 32];
     places_of(from, &mut places);
-    reading_rows(from, &mut rows[..area]);
+    reading_rows(k, from, &mut rows[..area]);
     let order = in_order();
+    let size = codeword.len();
     clear(out);
-    add_product(out, &order[..k], b, codeword, &places[..q], rows, q);
+    add_product(
+        out,
+        &order[..k],
+        b,
+        &codeword[..size],
+        &places[..q],
+        &rows[..area],
+        q,
+    );
 }

@@ -40,6 +40,12 @@ buffer-fits n new rest e = omega (arith, length-append new rest)
 pub buffer-count : (n : ℕ) (new rest : List ℕ) → length new ≡ n → n ≡ length (take n (new ++ rest))
 buffer-count n new rest e = sym (ap length (buffer-front n new rest e) ∙ e)
 
+-- the front of zeros
+pub zeros-front : (n m : ℕ) → n ≤ length (replicate {A = ℕ} m 0) → (j : ℕ) → getD (take n (replicate {A = ℕ} m 0)) j 0 ≡ 0
+zeros-front n m h j =
+    ⊎-elim (λ (l : j < n). getD-take n (replicate m 0) j 0 l ∙ zeros-at m j)
+    (λ l. List·getD-eq-default (take n (replicate m 0)) 0 (omega (arith, length-take-le n (replicate m 0) h))) (lt-or j n)
+
 -- n rows of m entries at its front
 pub cell-front : (m n : ℕ) (rows rest : List ℕ) → length rows ≡ n * m → (i j : ℕ) → i < n → j < m → cell m (rows ++ rest) i j ≡ cell m rows i j
 cell-front m n rows rest e i j hi hj =

@@ -1,8 +1,7 @@
--- The basis polynomials take values at the points back to coefficients: each times the value at its point, they sum up to a polynomial with these values, and
--- there is one such polynomial only. Assumes nothing.
+-- The points of a set's nodes; and the basis polynomials take the values there back to coefficients, by Lagrange's formula. Assumes nothing.
 use mathlib.Core.Path.{_≡_, refl, sym, ap, ap₂, _∙_, subst}
 use mathlib.Core.List.{List}
-use Prim.Native.Nat.{ℕ, suc, _+_, _*_, _^_, _<_}
+use Prim.Native.Nat.{ℕ, suc, _+_, _*_, _^_, _≤_, _<_}
 use native.Mathlib.Nat.{zero-add}
 use native.Mathlib.Omega.{arith}
 use lib.ListN.{length, getD}
@@ -10,19 +9,20 @@ use Rattle.base.specs.Seq.{cell}
 use Rattle.base.proofs.Seq.{length-tabulate, getD-tabulate}
 use Rattle.field.specs.Field.{IsByte, add, mul, pow}
 use Rattle.field.specs.FiniteSum.{sum}
-use Rattle.field.proofs.Addition.{add-zero-right, add-zero-eq}
-use Rattle.field.proofs.Multiplication.{mul-byte, mul-comm, mul-assoc, mul-zero-right, mul-one-right}
-use Rattle.field.proofs.FiniteSum.{sum-zero, sum-byte, sum-ext, mul-sum, sum-mul, sum-exchange, sum-one}
+use Rattle.field.proofs.Addition.{add-zero-right}
+use Rattle.field.proofs.Multiplication.{mul-comm, mul-assoc}
+use Rattle.field.proofs.FiniteSum.{sum-zero, sum-ext}
 use Rattle.interpolation.specs.Polynomial.{evaluate, Points}
-use Rattle.interpolation.proofs.Evaluate.{evaluate-rest, evaluate-join}
-use Rattle.interpolation.proofs.Kernel.{rest-unique}
+use Rattle.interpolation.specs.Lagrange.{coefs, apart}
+use Rattle.interpolation.proofs.Evaluate.{evaluate-join}
+use Rattle.interpolation.proofs.Lagrange.{coefficients}
 use Rattle.interpolation.proofs.PointLists.{points-of}
 use Rattle.interpolation.proofs.Rows.{join, join-left, join-right, join-byte}
 use Rattle.params.specs.Nodes.{has, size, count}
 use Rattle.params.proofs.Sets.{length-nodes, entry as node-entry, distinct}
 use Rattle.code.specs.Code.{point}
-use Rattle.coefficients.specs.Coefficients.{listed, pointAt, Reads, ReadsPost}
-use Rattle.coefficients.specs.Working.{pointsOf, BasisRows, Readable}
+use Rattle.coefficients.specs.Coefficients.{listed, pointAt, Readable, Reads, ReadsPost}
+use Rattle.coefficients.specs.Working.{pointsOf, basis, BasisRows, Columned}
 use Rattle.coefficients.proofs.Laws.{size-most, length-listed}
 
 -- ---- the points of a list of nodes
@@ -45,11 +45,6 @@ module _ (nodes : List ℕ) (points : Points (pointsOf nodes)) where
   pub point-nonzero : (t : ℕ) → t < length nodes → point (getD nodes t 0) ≡ 0 → ⊥
   point-nonzero t h e = points .nonzero t (within t h) (pointsOf-at nodes t h ∙ e)
 
-  -- two points are different, so their sum is not 0
-  pub gap-nonzero : (t i : ℕ) → t < length nodes → i < length nodes → (t ≡ i → ⊥) → add (point (getD nodes t 0)) (point (getD nodes i 0)) ≡ 0 → ⊥
-  gap-nonzero t i ht hi ne e =
-      ne (points .distinct t i (within t ht) (within i hi) (pointsOf-at nodes t ht ∙ add-zero-eq _ _ e ∙ sym (pointsOf-at nodes i hi)))
-
 -- the points of a set's nodes tell a polynomial
 pub listed-points : (s : ℕ) → Points (pointsOf (listed s))
 unfolding point
@@ -62,60 +57,19 @@ listed-points s =
     (λ i j hi hj q. distinct (has s) 32 i j (omega arith) (omega arith) (sym (at i hi) ∙ q ∙ at j hj))
 
 -- what its basis polynomials ask, for the list that is lent
-pub listed-readable : (s count : ℕ) (nodes old : List ℕ) → s < 2 ^ 32 → nodes ≡ listed s → count ≡ size s → length old ≡ count * count
-    → Readable nodes old
-listed-readable s count nodes old h lent all room =
+pub listed-columned : (k s count : ℕ) (nodes old : List ℕ) → s < 2 ^ 32 → nodes ≡ listed s → count ≡ size s → (k ≡ 0 → ⊥) → k ≤ count
+    → length old ≡ k * count → Columned k nodes old
+listed-columned k s count nodes old h lent all some few room =
     let n : length nodes ≡ count = ap length lent ∙ length-listed s h ∙ sym all in
     record {
+      some = omega (arith, some);
+      few = omega arith;
       most = omega (arith, size-most s h);
       points = subst (λ (l : List ℕ). Points (pointsOf l)) (sym lent) (listed-points s);
-      room = room ∙ ap₂ (λ (a b : ℕ). a * b) (sym n) (sym n);
+      room = room ∙ ap (λ (m : ℕ). k * m) (sym n);
     }
 
 -- ---- from values to coefficients
-
-module _ (nodes rows : List ℕ) (points : Points (pointsOf nodes)) (basis : BasisRows nodes (length nodes) rows) where
-  -- the value at node t of a polynomial with as many coefficients as there are nodes
-  at : (ℕ → ℕ) → ℕ → ℕ
-  at P t = sum (length nodes) (λ j. mul (P j) (pow (point (getD nodes t 0)) (suc j)))
-
-  at-told : (x P : ℕ → ℕ) (t : ℕ) → t < length nodes → evaluate 0 (length (pointsOf nodes)) x P (getD (pointsOf nodes) t 0) ≡ at P t
-  unfolding at
-  at-told x P t ht =
-      evaluate-rest 0 (length (pointsOf nodes)) x P (getD (pointsOf nodes) t 0) (λ j hj. absurd (omega arith))
-      ∙ ap₂ (λ (n c : ℕ). sum n (λ j. mul (P j) (pow c (0 + suc j)))) (length-pointsOf nodes) (pointsOf-at nodes t ht)
-      ∙ sum-ext (length nodes) _ _ (λ j hj. ap (λ (k : ℕ). mul (P j) (pow (point (getD nodes t 0)) k)) (zero-add (suc j)))
-
-  -- the basis polynomials, each times the wanted value at its node
-  combined : (ℕ → ℕ) → ℕ → ℕ
-  combined Y j = sum (length nodes) (λ i. mul (cell (length nodes) rows j i) (Y i))
-
-  combined-at : (Y : ℕ → ℕ) → ((i : ℕ) → i < length nodes → IsByte (Y i)) → (t : ℕ) → t < length nodes → at (combined Y) t ≡ Y t
-  unfolding at combined
-  combined-at Y hY t ht =
-      let n = length nodes in
-      let w : ℕ → ℕ = λ j. pow (point (getD nodes t 0)) (suc j) in
-      let r : ℕ → ℕ → ℕ = cell n rows in
-      sum-ext n _ _ (λ j hj. sum-mul n (w j) (λ i. mul (r j i) (Y i)))
-      ∙ sum-exchange n n (λ j i. mul (mul (r j i) (Y i)) (w j))
-      ∙ sum-ext n _ _
-      (λ i hi.
-      sum-ext n _ _ (λ j hj. ap (λ (k : ℕ). mul k (w j)) (mul-comm (r j i) (Y i)) ∙ mul-assoc (Y i) (r j i) (w j))
-      ∙ sym (mul-sum n (Y i) (λ j. mul (r j i) (w j))))
-      ∙ sum-one n t _ ht (λ i hi ne. ap (mul (Y i)) (basis i hi .others t ht (λ e. ne (sym e))) ∙ mul-zero-right (Y i))
-      ∙ ap (mul (Y t)) (basis t ht .own) ∙ mul-one-right (Y t) (hY t ht)
-
-  -- .. are together the polynomial that takes these values
-  read-back : (P : ℕ → ℕ) → ((j : ℕ) → j < length nodes → IsByte (P j)) → (j : ℕ) → j < length nodes
-      → sum (length nodes) (λ i. mul (cell (length nodes) rows j i) (sum (length nodes) (λ k. mul (P k) (pow (point (getD nodes i 0)) (suc k))))) ≡ P j
-  unfolding at combined
-  read-back P hP j hj =
-      let inside : (t : ℕ) → t < length (pointsOf nodes) → t < length nodes = λ t h. omega (arith, length-pointsOf nodes) in
-      rest-unique 0 (pointsOf nodes) P (combined (at P)) P points (λ j h. sum-byte (length nodes) _ (λ i hi. mul-byte _ _)) (λ j h. hP j (inside j h))
-      (λ t h.
-      at-told P (combined (at P)) t (inside t h)
-      ∙ combined-at (at P) (λ i hi. sum-byte (length nodes) _ (λ k hk. mul-byte (P k) _)) t (inside t h) ∙ sym (at-told P P t (inside t h)))
-      j (omega (arith, length-pointsOf nodes))
 
 -- leading and remaining coefficients in one row
 evaluate-row : (k l : ℕ) (x v : ℕ → ℕ) (c : ℕ) → evaluate k l x v c ≡ sum (k + l) (λ j. mul (join k x v j) (pow c (suc j)))
@@ -123,33 +77,59 @@ unfolding evaluate
 evaluate-row k l x v c =
     evaluate-join k l x v (join k x v) v c (join-left k x v) (λ j h. join-right k x v j) ∙ ap (add _) (sum-zero _) ∙ add-zero-right _
 
+-- the coefficients P of a polynomial that has as many as there are nodes
+module _ (nodes : List ℕ) (points : Points (pointsOf nodes)) (P : ℕ → ℕ) (hP : (j : ℕ) → IsByte (P j)) where
+  -- its value at a point
+  abbrev at : ℕ → ℕ
+  at c = sum (length nodes) (λ j. mul (P j) (pow c (suc j)))
+
+  read-back : (j : ℕ) → j < length nodes → sum (length nodes) (λ o. mul (basis nodes o j) (at (point (getD nodes o 0)))) ≡ P j
+  unfolding basis
+  read-back j hj =
+      let ps = pointsOf nodes in
+      let term : ℕ → ℕ → ℕ = λ n c. mul (mul (sum n (λ o. mul (P o) (pow c (0 + suc o)))) (pow (apart 0 ps c c) 254)) (getD (coefs ps c n) j 0) in
+      sym
+      (coefficients 0 ps points P (λ o h. hP o) j (omega (arith, length-pointsOf nodes))
+      ∙ ap (λ (n : ℕ). sum n (λ k. term n (getD ps k 0))) (length-pointsOf nodes)
+      ∙ sum-ext (length nodes) _ _
+      (λ o ho.
+      let c = point (getD nodes o 0) in
+      ap (term (length nodes)) (pointsOf-at nodes o ho)
+      ∙ ap (λ (y : ℕ). mul (mul y (pow (apart 0 ps c c) 254)) (getD (coefs ps c (length nodes)) j 0))
+      (sum-ext (length nodes) _ _ (λ t ht. ap (λ (k : ℕ). mul (P t) (pow (point (getD nodes o 0)) k)) (zero-add (suc t))))
+      ∙ mul-comm _ _ ∙ ap (mul _) (mul-comm _ _) ∙ sym (mul-assoc _ _ _)))
+
 -- the basis polynomials take the values at a set's nodes to the coefficients
-reads : (s : ℕ) (rows : List ℕ) → s < 2 ^ 32 → BasisRows (listed s) (length (listed s)) rows → Reads s rows
-reads s rows h basis =
+reads : (k s : ℕ) (rows : List ℕ) → s < 2 ^ 32 → BasisRows k (listed s) (length (listed s)) rows → Reads k s rows
+reads k s rows h rows-are =
     record {
-      takes = λ k l x v whole hx hv j hj.
+      takes = λ l x v whole hx hv j hj.
           let n : length (listed s) ≡ size s = length-listed s h in
           let m : k + l ≡ length (listed s) = whole ∙ sym n in
           ap (λ (q : ℕ). sum q (λ o. mul (cell q rows j o) (evaluate k l x v (pointAt s o)))) (sym n)
           ∙ sum-ext (length (listed s)) _ _
           (λ o ho.
-          ap (mul (cell (length (listed s)) rows j o))
+          ap₂ mul (rows-are o j ho hj)
           (evaluate-row k l x v (pointAt s o) ∙ ap (λ (q : ℕ). sum q (λ j. mul (join k x v j) (pow (pointAt s o) (suc j)))) m))
-          ∙ read-back (listed s) rows (listed-points s) basis (join k x v) (λ i hi. join-byte k x v hx hv i) j (omega arith) ∙ join-left k x v j hj;
+          ∙ read-back (listed s) (listed-points s) (join k x v) (join-byte k x v hx hv) j (omega arith) ∙ join-left k x v j hj;
     }
 
 -- ---- what the call leaves
 
--- no room for just the rows
-pub reads-kept : (s count : ℕ) (rows : List ℕ) → count ≡ size s → (length rows ≡ count * count → ⊥) → ReadsPost s rows rows
-reads-kept s count rows all none =
-    record { same = refl; written = λ room. absurd (none (room ∙ sym (ap (λ (k : ℕ). k * k) all))); kept = λ r. refl }
+-- no coefficient is asked for
+pub reads-none : (k s : ℕ) (rows : List ℕ) → k ≡ 0 → ReadsPost k s rows rows
+reads-none k s rows none =
+    record { same = refl; written = λ r. record { takes = λ l x v whole hx hv j hj. absurd (omega arith) }; kept = λ r. refl }
 
-pub reads-made : (s count : ℕ) (nodes old new : List ℕ) → s < 2 ^ 32 → count ≡ size s → length old ≡ count * count → length new ≡ length old
-    → nodes ≡ listed s → BasisRows nodes (length nodes) new → ReadsPost s old new
-reads-made s count nodes old new h all room same lent basis =
+-- too many are, or there is no room for just the rows
+pub reads-kept : (k s : ℕ) (rows : List ℕ) → (Readable k s (length rows) → ⊥) → ReadsPost k s rows rows
+reads-kept k s rows none = record { same = refl; written = λ r. absurd (none r); kept = λ r. refl }
+
+pub reads-made : (k s count : ℕ) (nodes old new : List ℕ) → s < 2 ^ 32 → count ≡ size s → k ≤ count → length old ≡ k * count
+    → length new ≡ length old → nodes ≡ listed s → BasisRows k nodes (length nodes) new → ReadsPost k s old new
+reads-made k s count nodes old new h all few room same lent rows-are =
     record {
       same = same;
-      written = λ r. reads s new h (subst (λ (l : List ℕ). BasisRows l (length l) new) lent basis);
-      kept = λ none. absurd (none (room ∙ ap (λ (k : ℕ). k * k) all));
+      written = λ r. reads k s new h (subst (λ (l : List ℕ). BasisRows k l (length l) new) lent rows-are);
+      kept = λ none. absurd (none (record { few = omega arith; room = room ∙ ap (λ (m : ℕ). k * m) all }));
     }

@@ -44,15 +44,20 @@ pub record PowersPost (e m : ℕ) (nodes old new : List ℕ) : Type 0 where
 
 -- ---- from values to coefficients
 
--- The rows take the values of a polynomial at the set's nodes, as many as it has coefficients, to its leading coefficients.
-pub record Reads (from : ℕ) (rows : List ℕ) : Type 0 where
-  pub takes : (k l : ℕ) (x v : ℕ → ℕ) → k + l ≡ size from → ((j : ℕ) → IsByte (x j)) → ((j : ℕ) → IsByte (v j)) → (j : ℕ) → j < k
+-- The rows take the values of a polynomial at the set's nodes, as many as it has coefficients, to its k leading coefficients.
+pub record Reads (k from : ℕ) (rows : List ℕ) : Type 0 where
+  pub takes : (l : ℕ) (x v : ℕ → ℕ) → k + l ≡ size from → ((j : ℕ) → IsByte (x j)) → ((j : ℕ) → IsByte (v j)) → (j : ℕ) → j < k
       → sum (size from) (λ o. mul (cell (size from) rows j o) (evaluate k l x v (pointAt from o))) ≡ x j
 
-pub record ReadsPost (from : ℕ) (old new : List ℕ) : Type 0 where
+-- what such rows ask: no more leading coefficients than there are values, and room for just the rows
+pub record Readable (k from rows : ℕ) : Type 0 where
+  pub few : k ≤ size from
+  pub room : rows ≡ k * size from
+
+pub record ReadsPost (k from : ℕ) (old new : List ℕ) : Type 0 where
   pub same : length new ≡ length old
-  pub written : length old ≡ size from * size from → Reads from new
-  pub kept : (length old ≡ size from * size from → ⊥) → new ≡ old
+  pub written : Readable k from (length old) → Reads k from new
+  pub kept : (Readable k from (length old) → ⊥) → new ≡ old
 
 -- ---- from leading coefficients and values to other values
 

@@ -9,7 +9,7 @@ use Rattle.base.specs.Seq.{tabulate, cell, blocks}
 use Rattle.field.specs.Field.{IsByte, add, mul, pow}
 use Rattle.field.specs.FiniteSum.{sum}
 use Rattle.interpolation.specs.Polynomial.{evaluate, Points}
-use Rattle.interpolation.specs.Lagrange.{value, apart, gain}
+use Rattle.interpolation.specs.Lagrange.{coefs, apart, gain}
 use Rattle.code.specs.Code.{point}
 
 -- c^(e+1), c^(e+2), .., c^(e+m)
@@ -24,52 +24,43 @@ stepsFrom l start m = tabulate m (λ j. pow 2 (start + suc j * l))
 unfoldable pub pointsOf : List ℕ → List ℕ
 pointsOf nodes = tabulate (length nodes) (λ i. point (getD nodes i 0))
 
--- ---- from values to coefficients: a polynomial is a list of its coefficients, from the power 0 on, and zeros behind them
+-- ---- from values to coefficients
 
--- new is old times z + x
+-- the coefficient at z^j of the product of all z - x, for the points x of the first d nodes; none of them is 00, so that none is left out
+abbrev pub productAt : List ℕ → ℕ → ℕ → ℕ
+productAt nodes d j = getD (coefs (pointsOf nodes) 0 d) j 0
+
+-- the coefficient at z^(j+1) of the basis polynomial of node i, which is 1 at the node's point and 0 at the points of the others
+unfoldable pub basis : List ℕ → ℕ → ℕ → ℕ
+basis nodes i j =
+    mul (getD (coefs (pointsOf nodes) (point (getD nodes i 0)) (length nodes)) j 0)
+    (pow (apart 0 (pointsOf nodes) (point (getD nodes i 0)) (point (getD nodes i 0))) 254)
+
+-- new is old times z - x, as far as it goes
 pub record Widened (x : ℕ) (old new : List ℕ) : Type 0 where
   pub first : getD new 0 0 ≡ mul x (getD old 0 0)
-  pub next : (j : ℕ) → getD new (suc j) 0 ≡ add (getD old j 0) (mul x (getD old (suc j) 0))
+  pub next : (j : ℕ) → suc j < length old → getD new (suc j) 0 ≡ add (getD old j 0) (mul x (getD old (suc j) 0))
 
--- p is the product of z + x over the points x of the first d nodes: it begins with z^d and is 0 at these points
-pub record Product (nodes : List ℕ) (d : ℕ) (p : List ℕ) : Type 0 where
-  pub leading : getD p d 0 ≡ 1
-  pub above : (j : ℕ) → d < j → getD p j 0 ≡ 0
-  pub roots : (i : ℕ) → i < d → value p (point (getD nodes i 0)) ≡ 0
+-- p is the product of all z - x, for the points x of the first d nodes, as far as it goes
+abbrev pub Lowest : List ℕ → ℕ → List ℕ → Type 0
+Lowest nodes d p = (j : ℕ) → j < length p → getD p j 0 ≡ productAt nodes d j
 
--- p is quotient times z + x, and a remainder at the power 0; own is the quotient's value at x
-pub record Divided (x : ℕ) (p quotient : List ℕ) (own : ℕ) : Type 0 where
-  pub next : (j : ℕ) → j < length quotient → getD p (suc j) 0 ≡ add (getD quotient j 0) (mul x (getD quotient (suc j) 0))
-  pub value-own : own ≡ value quotient x
+-- the columns of rows, count entries each, are the basis polynomials of the first d nodes
+abbrev pub BasisRows : ℕ → List ℕ → ℕ → List ℕ → Type 0
+BasisRows count nodes d rows = (i j : ℕ) → i < d → j < count → cell (length nodes) rows j i ≡ basis nodes i j
 
--- column i of the square matrix new is the list times s, and the other columns are those of old
-pub record Column (s i : ℕ) (list old new : List ℕ) : Type 0 where
-  pub written : (j : ℕ) → j < length list → cell (length list) new j i ≡ mul (getD list j 0) s
-  pub kept : (j k : ℕ) → j < length list → k < length list → (k ≡ i → ⊥) → cell (length list) new j k ≡ cell (length list) old j k
+-- column i has become the basis polynomial of node i, and the other columns are as they were
+pub record BasisPut (count : ℕ) (nodes : List ℕ) (i : ℕ) (old new : List ℕ) : Type 0 where
+  pub put : (j : ℕ) → j < count → cell (length nodes) new j i ≡ basis nodes i j
+  pub kept : (j k : ℕ) → k < length nodes → (k ≡ i → ⊥) → cell (length nodes) new j k ≡ cell (length nodes) old j k
 
--- the value at node t of the polynomial whose coefficients, from the power 1 on, stand in column i of rows, as many as there are nodes
-abbrev pub columnAt : List ℕ → List ℕ → ℕ → ℕ → ℕ
-columnAt nodes rows i t = sum (length nodes) (λ j. mul (cell (length nodes) rows j i) (pow (point (getD nodes t 0)) (suc j)))
-
--- that polynomial is the basis polynomial of node i: 1 there, and 0 at the others
-pub record BasisColumn (nodes rows : List ℕ) (i : ℕ) : Type 0 where
-  pub own : columnAt nodes rows i i ≡ 1
-  pub others : (t : ℕ) → t < length nodes → (t ≡ i → ⊥) → columnAt nodes rows i t ≡ 0
-
--- so it is for the first d nodes
-abbrev pub BasisRows : List ℕ → ℕ → List ℕ → Type 0
-BasisRows nodes d rows = (i : ℕ) → i < d → BasisColumn nodes rows i
-
--- column i has become so, and the other columns are as they were
-pub record BasisPut (nodes : List ℕ) (i : ℕ) (old new : List ℕ) : Type 0 where
-  pub put : BasisColumn nodes new i
-  pub kept : (j k : ℕ) → j < length nodes → k < length nodes → (k ≡ i → ⊥) → cell (length nodes) new j k ≡ cell (length nodes) old j k
-
--- what basis polynomials ask: at most 32 nodes with points that tell a polynomial, and room for a square matrix
-pub record Readable (nodes rows : List ℕ) : Type 0 where
+-- what this asks: nodes with points that tell a polynomial, at most 32, and room for so many of each basis polynomial's coefficients, at least one
+pub record Columned (count : ℕ) (nodes rows : List ℕ) : Type 0 where
+  pub some : 0 < count
+  pub few : count ≤ length nodes
   pub most : length nodes ≤ 32
   pub points : Points (pointsOf nodes)
-  pub room : length rows ≡ length nodes * length nodes
+  pub room : length rows ≡ count * length nodes
 
 -- what the remaining coefficients v of a polynomial, m of them behind e leading ones, give at a node
 abbrev pub remaining : ℕ → ℕ → (ℕ → ℕ) → ℕ → ℕ

@@ -67,7 +67,7 @@ fn weigh(logs: &[u8], e: usize, at: &[u8], weights: &mut [u8])
 }
 
 // The exponent of x^(e+1) times the product of all x - d, for the points d of `at` other than x.
-fn spread(logs: &[u8], e: usize, at: &[u8], node: u8) -> usize
+pub(crate) fn spread(logs: &[u8], e: usize, at: &[u8], node: u8) -> usize
     requires { ⌜ LogTable (now logs) ⌝ }
     requires { ⌜ Weighable e (now at) ⌝ }
     requires { ⌜ (point node ≡ 0 → ⊥) ⌝ }

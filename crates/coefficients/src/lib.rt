@@ -90,18 +90,24 @@ pub fn power_rows(nodes: &[u8], e: usize, m: usize, out: &mut [u8])
     raising::fill_rows(&logs(), &powers(), nodes, e, m, out);
 }
 
-// rows := the coefficients that take the values at the set's nodes to the coefficients of a polynomial that has as many: column i is the basis polynomial of
-// the set's node i. Where rows has no room for just these, nothing is written.
-pub fn reading_rows(from: NodeSet, rows: &mut [u8])
-    ensures { λ _. ⌜ ReadsPost (from .0) (now (rows .entry)) (now (rows .exit)) ⌝ }
+// rows := the coefficients that take the values at the set's nodes to the k leading coefficients of a polynomial that has as many as there are nodes: column i
+// has those of the basis polynomial of the set's node i. Where k exceeds the number of nodes, or rows has no room for just these, nothing is written.
+pub fn reading_rows(k: usize, from: NodeSet, rows: &mut [u8])
+    ensures { λ _. ⌜ ReadsPost k (from .0) (now (rows .entry)) (now (rows .exit)) ⌝ }
 {
     let count = from.size();
-    if rows.len() != count * count {
+    if k == 0 {
+        return;
+    }
+    if count < k {
+        return;
+    }
+    if rows.len() != k * count {
         return;
     }
     let mut nodes = [0u8; 32];
     from.list(&mut nodes);
-    reading::basis_rows(&logs(), &powers(), &nodes[..count], rows);
+    reading::basis_rows(&logs(), &powers(), &nodes[..count], k, rows);
 }
 
 // A polynomial with e leading coefficients, and as many others as `at` has nodes, is settled by the leading ones and its values at these nodes. leading and

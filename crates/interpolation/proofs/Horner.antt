@@ -13,21 +13,12 @@ use Rattle.field.proofs.Multiplication.{mul-byte, mul-comm, mul-assoc, mul-add-
 use Rattle.field.proofs.Exponents.{pow-suc, mul-cancel, inverse-exists}
 use Rattle.field.proofs.FiniteSum.{sum-ext}
 use Rattle.interpolation.specs.Polynomial.{Points}
-use Rattle.interpolation.specs.Lagrange.{value}
+use Rattle.interpolation.specs.Lagrange.{value, times}
 
 pub value-byte : (p : List ℕ) (z : ℕ) → Bytes p → IsByte (value p z)
 unfolding value
 value-byte [] z h = h 0
 value-byte (a ∷ p) z h = add-byte a _ (h 0) (mul-byte z (value p z))
-
--- only the coefficients count; behind a list's end stand zeros
-value-ext : (p q : List ℕ) (z : ℕ) → ((j : ℕ) → getD p j 0 ≡ getD q j 0) → value p z ≡ value q z
-unfolding value
-value-ext [] [] z h = refl
-value-ext [] (b ∷ q) z h =
-    sym (ap₂ add (sym (h 0)) (ap (mul z) (sym (value-ext [] q z (λ j. h (suc j)))) ∙ mul-zero-right z) ∙ add-zero-right 0)
-value-ext (a ∷ p) [] z h = ap₂ add (h 0) (ap (mul z) (value-ext p [] z (λ j. h (suc j))) ∙ mul-zero-right z) ∙ add-zero-right 0
-value-ext (a ∷ p) (b ∷ q) z h = ap₂ add (h 0) (ap (mul z) (value-ext p q z (λ j. h (suc j))))
 
 -- the value as a sum, with exponents from e + 1 on
 value-sum : (e : ℕ) (p : List ℕ) (z : ℕ)
@@ -58,11 +49,6 @@ sum-value e n v p z l h =
 
 -- ---- division by z + c
 
--- the coefficients of r + (z + c)·q
-pub times : ℕ → ℕ → List ℕ → List ℕ
-times c r [] = r ∷ []
-times c r (a ∷ q) = add r (mul c a) ∷ times c a q
-
 pub length-times : (c r : ℕ) (q : List ℕ) → length (times c r q) ≡ suc (length q)
 unfolding times
 length-times c r [] = refl
@@ -89,25 +75,16 @@ value-times c r (a ∷ q) z =
     inner : mul z (mul (add z c) (value q z)) ≡ mul (add z c) (mul z (value q z))
     inner = sym (mul-assoc z (add z c) _) ∙ ap (λ (k : ℕ). mul k (value q z)) (mul-comm z (add z c)) ∙ mul-assoc (add z c) z _
 
-times-first : (c r : ℕ) (q : List ℕ) → getD (times c r q) 0 0 ≡ add r (mul c (getD q 0 0))
+pub times-first : (c r : ℕ) (q : List ℕ) → getD (times c r q) 0 0 ≡ add r (mul c (getD q 0 0))
 unfolding times
 times-first c r [] = sym (ap (add r) (mul-zero-right c) ∙ add-zero-right r)
 times-first c r (a ∷ q) = refl
 
-times-next : (c r : ℕ) (q : List ℕ) (j : ℕ) → getD (times c r q) (suc j) 0 ≡ add (getD q j 0) (mul c (getD q (suc j) 0))
+pub times-next : (c r : ℕ) (q : List ℕ) (j : ℕ) → getD (times c r q) (suc j) 0 ≡ add (getD q j 0) (mul c (getD q (suc j) 0))
 unfolding times
 times-next c r [] j = sym (ap (add 0) (mul-zero-right c) ∙ add-zero-right 0)
 times-next c r (a ∷ q) zero = times-first c a q
 times-next c r (a ∷ q) (suc j) = times-next c a q j
-
--- .. for a list p that has these coefficients, and zeros behind them
-pub value-product : (c r : ℕ) (q p : List ℕ) (z : ℕ) → getD p 0 0 ≡ add r (mul c (getD q 0 0))
-    → ((j : ℕ) → getD p (suc j) 0 ≡ add (getD q j 0) (mul c (getD q (suc j) 0))) → value p z ≡ add r (mul (add z c) (value q z))
-value-product c r q p z first next = value-ext p (times c r q) z same ∙ value-times c r q z
-  where
-    same : (j : ℕ) → getD p j 0 ≡ getD (times c r q) j 0
-    same zero = first ∙ sym (times-first c r q)
-    same (suc j) = next j ∙ sym (times-next c r q j)
 
 -- at c itself only r is left
 value-times-here : (c r : ℕ) (q : List ℕ) → value (times c r q) c ≡ r

@@ -2,9 +2,9 @@
 -- the points but x. So the sum of these, each brought to the polynomial's value at its own point, is the polynomial itself. Assumes nothing.
 use mathlib.Core.Path.{_≡_, refl, sym, ap, ap₂, _∙_}
 use mathlib.Core.Bool.{Bool, true, false}
-use mathlib.Core.List.{List, [], _∷_}
+use mathlib.Core.List.{List}
 use mathlib.Core.Logic.{⊎-elim}
-use Prim.Native.Nat.{ℕ, zero, suc, _+_, _<_}
+use Prim.Native.Nat.{ℕ, zero, suc, _+_, _≤_, _<_}
 use native.Mathlib.Nat.{not-suc-le-zero}
 use native.Mathlib.Omega.{arith}
 use borrow.Author.Tests.{eq-eqb, ne-eqb}
@@ -13,13 +13,13 @@ use lib.ListN.{length, getD}
 use Rattle.base.proofs.Cases.{eq-or}
 use Rattle.field.specs.Field.{IsByte, Bytes, add, mul, pow}
 use Rattle.field.specs.FiniteSum.{sum}
-use Rattle.field.proofs.Addition.{add-byte, add-self, add-zero-left, add-zero-right, add-zero-eq, add-eq-zero}
-use Rattle.field.proofs.Multiplication.{mul-byte, mul-comm, mul-assoc, mul-add-left, mul-zero-left, mul-zero-right, mul-one-right}
+use Rattle.field.proofs.Addition.{add-byte, add-exchange, add-self, add-zero-left, add-zero-right, add-zero-eq, add-eq-zero}
+use Rattle.field.proofs.Multiplication.{mul-byte, mul-comm, mul-assoc, mul-add-left, mul-add-right, mul-zero-left, mul-zero-right, mul-one-right}
 use Rattle.field.proofs.Exponents.{pow-byte, pow-nonzero, mul-nonzero, inverse-power}
 use Rattle.field.proofs.FiniteSum.{sum-ext, sum-byte, sum-zeros, sum-add, mul-sum, sum-mul, sum-exchange, sum-one}
 use Rattle.interpolation.specs.Polynomial.{Points}
-use Rattle.interpolation.specs.Lagrange.{value, product, unless, factor, apart, gain}
-use Rattle.interpolation.proofs.Horner.{value-byte, sum-value, times, length-times, times-bytes, value-times}
+use Rattle.interpolation.specs.Lagrange.{value, times, product, unless, factor, widen, coefs, apart, gain}
+use Rattle.interpolation.proofs.Horner.{value-byte, sum-value, length-times, times-bytes, value-times, times-first, times-next}
 use Rattle.interpolation.proofs.Kernel.{kernel}
 
 -- ---- finite products
@@ -117,15 +117,6 @@ apart-whole e ps z k h hk out =
 
 -- ---- its coefficients
 
-widen : Bool → ℕ → List ℕ → List ℕ
-widen true d q = q
-widen false d q = times d 0 q
-
--- those of the product over the first n points
-coefs : List ℕ → ℕ → ℕ → List ℕ
-coefs ps x zero = 1 ∷ []
-coefs ps x (suc n) = widen (eqb (getD ps n 0) x) (getD ps n 0) (coefs ps x n)
-
 widen-bytes : (b : Bool) (d : ℕ) (q : List ℕ) → Bytes q → Bytes (widen b d q)
 unfolding widen
 widen-bytes true d q h = h
@@ -176,6 +167,95 @@ module _ (ps : List ℕ) (x : ℕ) where
       one-more n (λ p. ne (only n (omega arith) p)) ∙ ap suc (coefs-count n k (omega (arith, ne)) e (λ i hi. only i (omega arith))))
       (eq-or n k)
 
+-- as a sum over the coefficients, with exponents from e + 1 on
+apart-sum : (e : ℕ) (ps : List ℕ) → Points ps → (k z : ℕ) → k < length ps
+    → sum (length ps) (λ j. mul (getD (coefs ps (getD ps k 0) (length ps)) j 0) (pow z (e + suc j))) ≡ apart e ps (getD ps k 0) z
+unfolding apart
+apart-sum e ps h k z hk =
+    sum-value e (length ps) _ (coefs ps (getD ps k 0) (length ps)) z
+    (coefs-count ps (getD ps k 0) (length ps) k hk refl (λ i hi q. h .distinct i k hi hk q)) (λ j hj. refl)
+    ∙ ap (mul (pow z (suc e))) (coefs-value ps (getD ps k 0) (length ps) z)
+
+-- ---- the product over all points, by that over all but one: no point is 00, so that leaving 00 out leaves none out
+
+module _ (ps : List ℕ) (x n : ℕ) (ne : getD ps n 0 ≡ x → ⊥) where
+  factor-in : coefs ps x (suc n) ≡ times (getD ps n 0) 0 (coefs ps x n)
+  unfolding coefs widen
+  factor-in = ap (λ (b : Bool). widen b (getD ps n 0) (coefs ps x n)) (ne-eqb (getD ps n 0) x ne)
+
+  pub coefs-first : getD (coefs ps x (suc n)) 0 0 ≡ mul (getD ps n 0) (getD (coefs ps x n) 0 0)
+  coefs-first = ap (λ (l : List ℕ). getD l 0 0) factor-in ∙ times-first (getD ps n 0) 0 (coefs ps x n) ∙ add-zero-left _
+
+  pub coefs-next : (j : ℕ) → getD (coefs ps x (suc n)) (suc j) 0 ≡ add (getD (coefs ps x n) j 0) (mul (getD ps n 0) (getD (coefs ps x n) (suc j) 0))
+  coefs-next j = ap (λ (l : List ℕ). getD l (suc j) 0) factor-in ∙ times-next (getD ps n 0) 0 (coefs ps x n) j
+
+-- a point that is not there changes nothing
+coefs-absent : (ps : List ℕ) (x y n : ℕ) → ((i : ℕ) → i < n → getD ps i 0 ≡ x → ⊥) → ((i : ℕ) → i < n → getD ps i 0 ≡ y → ⊥)
+    → coefs ps x n ≡ coefs ps y n
+unfolding coefs
+coefs-absent ps x y zero hx hy = refl
+coefs-absent ps x y (suc n) hx hy =
+    factor-in ps x n (hx n (omega arith))
+    ∙ ap (times (getD ps n 0) 0) (coefs-absent ps x y n (λ i hi. hx i (omega arith)) (λ i hi. hy i (omega arith)))
+    ∙ sym (factor-in ps y n (hy n (omega arith)))
+
+-- (a + x·b) + c·(b + x·d) does not change where c and x change places
+exchange : (a b c d x : ℕ) → add (add a (mul x b)) (mul c (add b (mul x d))) ≡ add (add a (mul c b)) (mul x (add b (mul c d)))
+exchange a b c d x =
+    ap (add (add a (mul x b))) (mul-add-right c b (mul x d)) ∙ add-exchange a (mul x b) (mul c b) (mul c (mul x d))
+    ∙ ap (λ (k : ℕ). add (add a (mul c b)) (add (mul x b) k))
+    (sym (mul-assoc c x d) ∙ ap (λ (k : ℕ). mul k d) (mul-comm c x) ∙ mul-assoc x c d)
+    ∙ ap (add (add a (mul c b))) (sym (mul-add-right x b (mul c d)))
+
+times-exchange : (c x : ℕ) (q : List ℕ) (j : ℕ) → getD (times c 0 (times x 0 q)) j 0 ≡ getD (times x 0 (times c 0 q)) j 0
+times-exchange c x q zero = start c x ∙ exchange 0 0 c (getD q 0 0) x ∙ sym (start x c)
+  where
+    start : (c x : ℕ) → getD (times c 0 (times x 0 q)) 0 0 ≡ add (add 0 (mul x 0)) (mul c (add 0 (mul x (getD q 0 0))))
+    start c x =
+        times-first c 0 (times x 0 q)
+        ∙ ap₂ (λ (r t : ℕ). add r (mul c t)) (sym (ap (add 0) (mul-zero-right x) ∙ add-zero-right 0)) (times-first x 0 q)
+times-exchange c x q (suc zero) = start c x ∙ exchange 0 (getD q 0 0) c (getD q 1 0) x ∙ sym (start x c)
+  where
+    start : (c x : ℕ) → getD (times c 0 (times x 0 q)) 1 0 ≡ add (add 0 (mul x (getD q 0 0))) (mul c (add (getD q 0 0) (mul x (getD q 1 0))))
+    start c x = times-next c 0 (times x 0 q) 0 ∙ ap₂ (λ (r t : ℕ). add r (mul c t)) (times-first x 0 q) (times-next x 0 q 0)
+times-exchange c x q (suc (suc j)) = start c x ∙ exchange (getD q j 0) (getD q (suc j) 0) c (getD q (suc (suc j)) 0) x ∙ sym (start x c)
+  where
+    start : (c x : ℕ) → getD (times c 0 (times x 0 q)) (suc (suc j)) 0
+        ≡ add (add (getD q j 0) (mul x (getD q (suc j) 0))) (mul c (add (getD q (suc j) 0) (mul x (getD q (suc (suc j)) 0))))
+    start c x = times-next c 0 (times x 0 q) (suc j) ∙ ap₂ (λ (r t : ℕ). add r (mul c t)) (times-next x 0 q j) (times-next x 0 q (suc j))
+
+times-ext : (c : ℕ) (p q : List ℕ) → ((j : ℕ) → getD p j 0 ≡ getD q j 0) → (j : ℕ) → getD (times c 0 p) j 0 ≡ getD (times c 0 q) j 0
+times-ext c p q h zero = times-first c 0 p ∙ ap (λ (k : ℕ). add 0 (mul c k)) (h 0) ∙ sym (times-first c 0 q)
+times-ext c p q h (suc j) = times-next c 0 p j ∙ ap₂ (λ (r t : ℕ). add r (mul c t)) (h j) (h (suc j)) ∙ sym (times-next c 0 q j)
+
+module _ (ps : List ℕ) (h : Points ps) (i : ℕ) where
+  abbrev left : ℕ
+  left = getD ps i 0
+
+  divide : (n : ℕ) → i < n → n ≤ length ps → (j : ℕ) → getD (coefs ps 0 n) j 0 ≡ getD (times left 0 (coefs ps left n)) j 0
+  unfolding coefs widen
+  divide zero hi hn j = absurd (not-suc-le-zero hi)
+  divide (suc n) hi hn j =
+      ap (λ (l : List ℕ). getD l j 0) (factor-in ps 0 n (h .nonzero n (omega arith)))
+      ∙ ⊎-elim
+      (λ (q : n ≡ i).
+      ap (λ (k : ℕ). getD (times (getD ps k 0) 0 (coefs ps 0 n)) j 0) q
+      ∙ ap (λ (l : List ℕ). getD (times left 0 l) j 0)
+      (coefs-absent ps 0 left n (λ m hm. h .nonzero m (omega arith))
+      (λ m hm e. let r : m ≡ i = h .distinct m i (omega arith) (omega arith) e in omega arith)
+      ∙ sym (ap (λ (b : Bool). widen b (getD ps n 0) (coefs ps left n)) (eq-eqb (getD ps n 0) left (ap (λ (k : ℕ). getD ps k 0) q)))))
+      (λ ne.
+      times-ext (getD ps n 0) _ _ (divide n (omega (arith, ne)) (omega arith)) j ∙ times-exchange (getD ps n 0) left (coefs ps left n) j
+      ∙ ap (λ (l : List ℕ). getD (times left 0 l) j 0) (sym (factor-in ps left n (λ e. ne (h .distinct n i (omega arith) (omega arith) e)))))
+      (eq-or n i)
+
+  pub whole-first : (n : ℕ) → i < n → n ≤ length ps → getD (coefs ps 0 n) 0 0 ≡ mul (getD ps i 0) (getD (coefs ps (getD ps i 0) n) 0 0)
+  whole-first n hi hn = divide n hi hn 0 ∙ times-first left 0 (coefs ps left n) ∙ add-zero-left _
+
+  pub whole-next : (n : ℕ) → i < n → n ≤ length ps → (j : ℕ)
+      → getD (coefs ps 0 n) (suc j) 0 ≡ add (getD (coefs ps (getD ps i 0) n) j 0) (mul (getD ps i 0) (getD (coefs ps (getD ps i 0) n) (suc j) 0))
+  whole-next n hi hn j = divide n hi hn (suc j) ∙ times-next left 0 (coefs ps left n) j
+
 -- ---- the formula
 
 -- the product of a row and a matrix, applied, is the row applied to what the matrix gives
@@ -202,20 +282,13 @@ module _ (e : ℕ) (ps : List ℕ) (h : Points ps) (v : ℕ → ℕ) (hv : (j : 
   abbrev rest : ℕ → ℕ
   rest j = add (v j) (sum (length ps) (λ k. mul (scale k) (coef k j)))
 
-  apart-sum : (k z : ℕ) → k < length ps → sum (length ps) (λ j. mul (coef k j) (pow z (e + suc j))) ≡ apart e ps (getD ps k 0) z
-  unfolding apart
-  apart-sum k z hk =
-      sum-value e (length ps) (coef k) (coefs ps (getD ps k 0) (length ps)) z
-      (coefs-count ps (getD ps k 0) (length ps) k hk refl (λ i hi q. h .distinct i k hi hk q)) (λ j hj. refl)
-      ∙ ap (mul (pow z (suc e))) (coefs-value ps (getD ps k 0) (length ps) z)
-
   rest-sum : (z : ℕ) → sum (length ps) (λ j. mul (rest j) (pow z (e + suc j)))
       ≡ add (whole z) (sum (length ps) (λ k. mul (scale k) (apart e ps (getD ps k 0) z)))
   rest-sum z =
       sum-ext (length ps) _ _ (λ j hj. mul-add-left (v j) _ (pow z (e + suc j))) ∙ sum-add (length ps) _ _
       ∙ ap (add (whole z))
       (associate (length ps) (length ps) scale coef (λ j. pow z (e + suc j))
-      ∙ sum-ext (length ps) _ _ (λ k hk. ap (mul (scale k)) (apart-sum k z hk)))
+      ∙ sum-ext (length ps) _ _ (λ k hk. ap (mul (scale k)) (apart-sum e ps h k z hk)))
 
   rest-vanishes : (i : ℕ) → i < length ps → sum (length ps) (λ j. mul (rest j) (pow (getD ps i 0) (e + suc j))) ≡ 0
   rest-vanishes i hi =
@@ -232,6 +305,15 @@ module _ (e : ℕ) (ps : List ℕ) (h : Points ps) (v : ℕ → ℕ) (hv : (j : 
   rest-zero : (j : ℕ) → j < length ps → rest j ≡ 0
   rest-zero =
       kernel e ps rest h (λ j hj. add-byte _ _ (hv j hj) (sum-byte (length ps) _ (λ k hk. mul-byte (scale k) _))) rest-vanishes
+
+  -- the coefficients, by the values at the points
+  pub coefficients : (j : ℕ) → j < length ps
+      → v j
+      ≡ sum (length ps)
+      (λ k.
+      mul (mul (sum (length ps) (λ o. mul (v o) (pow (getD ps k 0) (e + suc o)))) (pow (apart e ps (getD ps k 0) (getD ps k 0)) 254))
+      (getD (coefs ps (getD ps k 0) (length ps)) j 0))
+  coefficients j hj = add-zero-eq _ _ (rest-zero j hj)
 
   pub lagrange : (z : ℕ) → whole z ≡ sum (length ps) (λ k. mul (gain e ps (getD ps k 0) z) (whole (getD ps k 0)))
   unfolding gain

@@ -12,6 +12,11 @@ unfoldable pub value : List ℕ → ℕ → ℕ
 value [] z = 0
 value (a ∷ p) z = add a (mul z (value p z))
 
+-- the coefficients of r + (z + c)·q, in the same order
+unfoldable pub times : ℕ → ℕ → List ℕ → List ℕ
+times c r [] = r ∷ []
+times c r (a ∷ q) = add r (mul c a) ∷ times c a q
+
 -- f 0 · f 1 · .. · f (n - 1)
 unfoldable pub product : ℕ → (ℕ → ℕ) → ℕ
 product zero f = 1
@@ -25,6 +30,16 @@ unless false a = a
 -- the factor of the point d in the product for the point x, at z: z - d, or 01 where d is x itself
 unfoldable pub factor : ℕ → ℕ → ℕ → ℕ
 factor x z d = unless (eqb d x) (add z d)
+
+-- q for yes, (z - d)·q for no
+unfoldable pub widen : Bool → ℕ → List ℕ → List ℕ
+widen true d q = q
+widen false d q = times d 0 q
+
+-- the coefficients of the product of all z - d, for those of the first n points d of ps that are not x
+unfoldable pub coefs : List ℕ → ℕ → ℕ → List ℕ
+coefs ps x zero = 1 ∷ []
+coefs ps x (suc n) = widen (eqb (getD ps n 0) x) (getD ps n 0) (coefs ps x n)
 
 -- z^(e+1) times the product of all z - d, for the points d of ps other than x: 00 at these points
 unfoldable pub apart : ℕ → List ℕ → ℕ → ℕ → ℕ

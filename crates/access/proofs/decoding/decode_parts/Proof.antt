@@ -12,15 +12,17 @@ size-requires c κs = search needs
 
 mul-if1 : tie.Need-mul-if1
 mul-if1 c =
-    let s = c .before .before .before in
-    let most = size-most (s .args .from .0) (omega arith) in
-    omega (arith, areas-fit (c .size .result) (c .size .result) (omega (arith, c .size .ensures, most)) (omega (arith, c .size .ensures, most)))
+    let z = c .before in
+    let s = z .before .before .before in
+    let few = s .pre .valid .shape in
+    omega (arith, areas-fit (s .args .a .k) (z .size .result) (omega (arith, few .k-le-r, few .r-le-n, few .n-high)) (omega (arith, z .size .ensures, size-most (s .args .from .0) (omega arith))))
 
 decode-narrow-requires : tie.Need-decode-narrow-requires
 decode-narrow-requires c κs =
     let t = c .before in
-    let z = t .before in
-    (z .before .before .before .pre, subst (λ (n : ℕ). n * n ≤ 128) (z .size .ensures) (omega (arith, t .if1 .taken)))
+    let z = t .before .before in
+    let s = z .before .before .before in
+    (s .pre, subst (λ (n : ℕ). s .args .a .k * n ≤ 128) (z .size .ensures) (omega (arith, t .if1 .taken)))
 
 same-length : tie.Need-same-length
 same-length c = search needs

@@ -1,4 +1,4 @@
--- At most 32 nodes are read. Assumes nothing.
+-- At most 32 parts come of at most 32 nodes. Assumes nothing.
 use native.Mathlib.Omega.{arith}
 use borrow.Author.Needs.{needs}
 use Rattle.coefficients.proofs.Laws.{size-most, areas-fit}
@@ -11,7 +11,8 @@ slice-aggregate-decode-within c = search needs
 decode-within-requires : tie.Need-decode-within-requires
 decode-within-requires c κs =
     let s = c .before .before .before .before in
-    (s .pre, areas-fit _ _ (size-most (s .args .from .0) (omega arith)) (size-most (s .args .from .0) (omega arith)))
+    let few = s .pre .valid .shape in
+    (s .pre, areas-fit _ _ (omega (arith, few .k-le-r, few .r-le-n, few .n-high)) (size-most (s .args .from .0) (omega arith)))
 
 same-length : tie.Need-same-length
 same-length c = search needs

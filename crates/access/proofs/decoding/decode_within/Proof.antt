@@ -1,13 +1,16 @@
 -- The rows take the blocks read to the message. Assumes nothing.
-use mathlib.Core.Path.{_≡_, sym, ap₂, _∙_, subst⁻¹}
+use mathlib.Core.Path.{_≡_, sym, ap, _∙_, subst⁻¹}
+use mathlib.Core.List.{[]}
 use Prim.Native.Nat.{ℕ, _*_, _^_, _≤_, _<_}
 use native.Mathlib.Omega.{arith}
 use borrow.Author.Needs.{needs}
 use denote.Ref.{now}
-use lib.ListN.{length}
-use lib.Seq.{length-take-le}
+use lib.ListN.{length, drop}
+use lib.Seq.{length-take-le, take-length}
+use Rattle.params.specs.Nodes.{size}
 use Rattle.coefficients.specs.Coefficients.{placesOf}
-use Rattle.coefficients.proofs.Laws.{size-most, placing-zeros}
+use Rattle.coefficients.proofs.Laws.{size-most, areas-fit, placing-zeros, buffer-fits, buffer-count}
+use Rattle.access.proofs.PowerBlocks.{lent-fronts}
 use Rattle.access.proofs.ReadBack.{decoded}
 use Rattle.access.proofs.decoding.decode_within.Statement.{statement}
 use Rattle.access.proofs.decoding.decode_within.Tie as tie
@@ -23,11 +26,14 @@ most : (c : tie.After-size) → c .size .result ≤ 32
 most c = omega (arith, c .size .ensures, size-most (c .before .before .before .before .args .from .0) (word (c .before .before .before .before)))
 
 -- and room for their rows
-area : (c : tie.After-size) → c .size .result * c .size .result ≤ length (now (c .before .before .before .before .args .rows))
-area c = subst⁻¹ (λ (n : ℕ). n * n ≤ length (now (c .before .before .before .before .args .rows))) (c .size .ensures) (c .before .before .before .before .pre .1)
+area : (c : tie.After-size) → c .before .before .before .before .args .a .k * c .size .result ≤ length (now (c .before .before .before .before .args .rows))
+area c = subst⁻¹ (λ (n : ℕ). c .before .before .before .before .args .a .k * n ≤ length (now (c .before .before .before .before .args .rows))) (c .size .ensures) (c .before .before .before .before .pre .1)
 
 mul-area : tie.Need-mul-area
-mul-area c = omega (arith, area c)
+mul-area c =
+    let s = c .before .before .before .before in
+    let few = s .pre .0 .valid .shape in
+    omega (arith, areas-fit (s .args .a .k) (c .size .result) (omega (arith, few .k-le-r, few .r-le-n, few .n-high)) (most c))
 
 slice-aggregate-places-of : tie.Need-slice-aggregate-places-of
 slice-aggregate-places-of c = search needs
@@ -48,6 +54,10 @@ slice-aggregate-reading-rows c = sym (length-take-le _ (now (c .before .before .
 reading-rows-requires : tie.Need-reading-rows-requires
 reading-rows-requires c κs = search needs
 
+-- which the rows fill
+filled : (c : tie.After-reading-rows) → length (c .reading-rows .last .1 .1 .0) ≡ c .before .before .before .before .before .before .before .before .before .args .a .k * c .before .before .before .before .before .size .result
+filled c = c .reading-rows .ensures .same ∙ sym (slice-aggregate-reading-rows (c .before))
+
 in-order-requires : tie.Need-in-order-requires
 in-order-requires c κs = search needs
 
@@ -60,11 +70,26 @@ array-share-prefix-order c = search needs
 slice-aggregate-add-product : tie.Need-slice-aggregate-add-product
 slice-aggregate-add-product c = sym (length-take-le _ (c .before .before .before .before .before .before .in-order .result) (array-share-prefix-order (c .before)))
 
+slice-aggregate-add-product-2 : tie.Need-slice-aggregate-add-product-2
+slice-aggregate-add-product-2 c = sym (ap length (take-length (now (c .before .before .before .before .before .before .before .before .before .before .before .before .before .before .before .before .before .before .before .args .codeword))))
+
 array-share-prefix-places : tie.Need-array-share-prefix-places
 array-share-prefix-places c = search needs
 
-slice-aggregate-add-product-2 : tie.Need-slice-aggregate-add-product-2
-slice-aggregate-add-product-2 c = sym (length-take-le _ (c .before .before .before .before .before .before .before .before .before .before .before .before .before .places-of .last .1 .0) (array-share-prefix-places (c .before)))
+slice-aggregate-add-product-3 : tie.Need-slice-aggregate-add-product-3
+slice-aggregate-add-product-3 c = sym (length-take-le _ (c .before .before .before .before .before .before .before .before .before .before .before .before .before .before .places-of .last .1 .0) (array-share-prefix-places (c .before)))
+
+slice-reshare-prefix-add-product : tie.Need-slice-reshare-prefix-add-product
+slice-reshare-prefix-add-product c =
+    let r = c .before .before .before .before .before .before .before .before .before .before .before in
+    let s = r .before .before .before .before .before .before .before .before .before in
+    buffer-fits _ (r .reading-rows .last .1 .1 .0) (drop (s .args .a .k * r .before .before .before .before .before .size .result) (now (s .args .rows))) (filled r)
+
+slice-aggregate-add-product-4 : tie.Need-slice-aggregate-add-product-4
+slice-aggregate-add-product-4 c =
+    let r = c .before .before .before .before .before .before .before .before .before .before .before .before in
+    let s = r .before .before .before .before .before .before .before .before .before in
+    buffer-count _ (r .reading-rows .last .1 .1 .0) (drop (s .args .a .k * r .before .before .before .before .before .size .result) (now (s .args .rows))) (filled r)
 
 add-product-requires : tie.Need-add-product-requires
 add-product-requires c κs = search needs
@@ -78,17 +103,21 @@ same-length-2 c = search needs
 returns : tie.Need-returns
 returns c =
     let p = c .before .before in
-    let e = p .before .before .before .before .before .before .before in
+    let e = p .before .before .before .before .before .before .before .before in
     let o = e .before .before in
     let r = o .before .before .before in
     let l = r .before .before .before in
     let z = l .before .before in
     let s = z .before .before .before .before in
-    let full = sym (slice-aggregate-reading-rows (r .before)) in
-    decoded (s .args .a) (s .args .from .0) _ (word s) (now (s .args .codeword)) (s .pre .0) (z .size .result) (l .places-of .last .1 .0)
-    (o .in-order .result) (r .reading-rows .last .1 .0) _ _ _ (e .clear .ensures) (λ i. omega (arith, z .before .before .before .shared-slice-known .given i))
-    (z .size .ensures) (places l) (o .in-order .ensures) (r .reading-rows .ensures .same ∙ full)
-    (r .reading-rows .ensures .written (full ∙ ap₂ _*_ (z .size .ensures) (z .size .ensures))) (p .add-product .ensures)
+    let q = z .size .result in
+    let rows = r .reading-rows .last .1 .1 .0 in
+    let rest = drop (s .args .a .k * q) (now (s .args .rows)) in
+    let few : s .args .a .k ≤ size (s .args .from .0) = omega (arith, s .pre .0 .from-size, s .pre .0 .valid .shape .k-le-r) in
+    let room = sym (slice-aggregate-reading-rows (r .before)) ∙ ap (λ (n : ℕ). s .args .a .k * n) (z .size .ensures) in
+    decoded (s .args .a) (s .args .from .0) _ (word s) (now (s .args .codeword)) (s .pre .0) q (l .places-of .last .1 .0)
+    (o .in-order .result) rows [] _ _ (e .clear .ensures) (λ i. omega (arith, z .before .before .before .shared-slice-known .given i))
+    (z .size .ensures) (places l) (o .in-order .ensures) (filled r) (r .reading-rows .ensures .written (record { few = few; room = room }))
+    (lent-fronts (s .args .a .b) q _ (now (s .args .codeword)) rows rest _ _ _ _ (filled r) (p .add-product .ensures))
 
 pub decode-within-spec : {M : Type 1} → statement M
 decode-within-spec =
@@ -105,8 +134,11 @@ decode-within-spec =
     clear-requires
     array-share-prefix-order
     slice-aggregate-add-product
-    array-share-prefix-places
     slice-aggregate-add-product-2
+    array-share-prefix-places
+    slice-aggregate-add-product-3
+    slice-reshare-prefix-add-product
+    slice-aggregate-add-product-4
     add-product-requires
     same-length
     same-length-2

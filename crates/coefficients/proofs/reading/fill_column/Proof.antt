@@ -1,122 +1,200 @@
--- The quotient is not 0 at the point, so it can be brought to 1 there. Assumes nothing.
-use mathlib.Core.Path.{_≡_, sym, ap, ap₂, _∙_, subst}
-use mathlib.Core.List.{List}
-use Prim.Native.Nat.{ℕ, _*_}
+-- The first entry by exponents, and after j turns the first j entries, each from the one before. Assumes nothing.
+use mathlib.Core.Path.{_≡_, refl, sym, ap, _∙_, subst}
+use Prim.Native.Nat.{ℕ, suc, _+_, _-_, _*_, _≤_, _<_}
 use native.Mathlib.Omega.{arith}
 use borrow.Author.Needs.{needs}
 use denote.Ref.{now}
-use lib.ListN.{length, getD}
-use lib.Seq.{length-take-le}
-use Rattle.field.specs.Field.{Bytes, mul, pow}
-use Rattle.field.proofs.Exponents.{pow-add}
+use lib.ListN.{length, getD, set, length-set}
+use Rattle.base.proofs.Seq.{cell-lt}
+use Rattle.field.specs.Field.{add, mul, pow}
+use Rattle.field.proofs.Exponents.{power-at}
+use Rattle.interpolation.specs.Lagrange.{apart}
 use Rattle.code.specs.Code.{point}
-use Rattle.coefficients.specs.Working.{Divided, Column}
-use Rattle.coefficients.proofs.Laws.{buffer-front, buffer-count}
+use Rattle.coefficients.specs.Working.{pointsOf, productAt, basis}
+use Rattle.coefficients.proofs.Laws.{areas-fit}
 use Rattle.coefficients.proofs.Values.{point-nonzero}
-use Rattle.coefficients.proofs.Basis.{own-nonzero, basis-put}
+use Rattle.coefficients.proofs.Basis.{lead-first, lead-next, Climbed, climbed-none, climbed-here, climbed-more, climbed-on, climbed-all}
 use Rattle.coefficients.proofs.reading.fill_column.Statement.{statement}
 use Rattle.coefficients.proofs.reading.fill_column.Tie as tie
 
-shared-slice-read-t14 : tie.Need-shared-slice-read-t14
-shared-slice-read-t14 c = search needs
+abbrev Inv-loop : tie.InvT-loop
+Inv-loop logs exps nodes i first product rows₀ q back scale lead₀ j₀ rows lead j = (0 < j) × (j ≤ length product) × (lead ≡ basis nodes i (j - 1)) × Climbed nodes i j rows₀ rows
 
-point-requires : tie.Need-point-requires
+abbrev μ-loop : tie.MeasureT-loop
+μ-loop logs exps nodes i first product rows₀ q back scale lead₀ j₀ rows lead j = length product - j
+
+shared-slice-read-spread : tie.Need-shared-slice-read-spread Inv-loop μ-loop
+shared-slice-read-spread c = search needs
+
+point-requires : tie.Need-point-requires Inv-loop μ-loop
 point-requires c κs = search needs
 
-exponent-requires : tie.Need-exponent-requires
+exponent-requires : tie.Need-exponent-requires Inv-loop μ-loop
 exponent-requires c κs =
-    let s = c .before .before .before .before .before .before .before .before in
-    (s .pre .0, λ e. point-nonzero (now (s .args .nodes)) (s .pre .1 .1 .0 .points) (s .args .i) (s .pre .1 .1 .1 .0 .0) (sym (c .point .ensures) ∙ e))
+    let s = c .before .before .before .before .before .before .before in
+    (s .pre .0, λ e. point-nonzero (now (s .args .nodes)) (s .pre .1 .1 .0 .points) (s .args .i) (s .pre .1 .1 .1 .0) (sym (c .point .ensures) ∙ e))
 
-slice-relend-prefix-divide : tie.Need-slice-relend-prefix-divide
-slice-relend-prefix-divide c = search needs
-
-slice-aggregate-divide : tie.Need-slice-aggregate-divide
-slice-aggregate-divide c = sym (length-take-le _ (now (c .before .before .before .before .before .before .before .before .before .before .args .room)) (c .before .before .before .before .before .before .before .before .before .before .pre .1 .1 .1 .0 .2))
-
-divide-requires : tie.Need-divide-requires
-divide-requires c κs =
-    let s = c .before .before .before .before .before .before .before .before .before .before in
-    (s .pre .0, (s .pre .1 .0, (c .before .exponent .ensures .0, omega (arith, length-take-le _ (now (s .args .room)) (s .pre .1 .1 .1 .0 .2)))))
-
--- what is divided are bytes
-bytes : (c : tie.After-divide) → Bytes (now (c .before .before .before .before .before .before .before .before .before .before .before .args .product))
-bytes c i = omega (arith, c .before .before .before .before .before .before .before .shared-slice-known4 .given i)
-
-quotient-count : (c : tie.After-divide) → length (c .divide .last .1 .1 .1 .1 .0) ≡ length (now (c .before .before .before .before .before .before .before .before .before .before .before .args .nodes))
-quotient-count c = c .divide .kept .1 .1 .1 .1 .0 ∙ length-take-le _ (now (c .before .before .before .before .before .before .before .before .before .before .before .args .room)) (c .before .before .before .before .before .before .before .before .before .before .before .pre .1 .1 .1 .0 .2)
-
--- the exponent is that of the node's point
-exponent-right : (c : tie.After-divide) → pow 2 (c .before .before .exponent .result) ≡ point (getD (now (c .before .before .before .before .before .before .before .before .before .before .before .args .nodes)) (c .before .before .before .before .before .before .before .before .before .before .before .args .i) 0)
-exponent-right c = c .before .before .exponent .ensures .1 ∙ c .before .before .before .point .ensures
-
-quotient-right : (c : tie.After-divide) → Divided (point (getD (now (c .before .before .before .before .before .before .before .before .before .before .before .args .nodes)) (c .before .before .before .before .before .before .before .before .before .before .before .args .i) 0)) (now (c .before .before .before .before .before .before .before .before .before .before .before .args .product)) (c .divide .last .1 .1 .1 .1 .0) (c .divide .result)
-quotient-right c = subst (λ (x : ℕ). Divided x (now (c .before .before .before .before .before .before .before .before .before .before .before .args .product)) (c .divide .last .1 .1 .1 .1 .0) (c .divide .result)) (exponent-right c) (c .divide .ensures)
-
-exponent-requires-2 : tie.Need-exponent-requires-2
-exponent-requires-2 c κs =
-    let s = c .before .before .before .before .before .before .before .before .before .before .before .before .before in
-    let d = c .before .before in
-    (s .pre .0, own-nonzero (now (s .args .nodes)) (s .pre .1 .1 .0 .points) _ (bytes d) (s .pre .1 .1 .1 .1) (s .args .i) (s .pre .1 .1 .1 .0 .0) _ (quotient-count d) _ (quotient-right d))
-
-add-reduced : tie.Need-add-reduced
-add-reduced c = search needs
-
-reduced-requires : tie.Need-reduced-requires
-reduced-requires c κs = search needs
-
-opposite-requires : tie.Need-opposite-requires
+opposite-requires : tie.Need-opposite-requires Inv-loop μ-loop
 opposite-requires c κs = search needs
 
-slice-reshare-prefix-put-column : tie.Need-slice-reshare-prefix-put-column
-slice-reshare-prefix-put-column c = search needs
+shared-slice-read-spread-2 : tie.Need-shared-slice-read-spread-2 Inv-loop μ-loop
+shared-slice-read-spread-2 c = search needs
 
-slice-aggregate-put-column : tie.Need-slice-aggregate-put-column
-slice-aggregate-put-column c = buffer-count _ (c .before .before .before .before .before .before .divide .last .1 .1 .1 .1 .0) _ (quotient-count (c .before .before .before .before .before .before))
+spread-requires : tie.Need-spread-requires Inv-loop μ-loop
+spread-requires c κs =
+    let s = c .before .before .before .before .before .before .before .before .before .before in
+    let r = s .pre .1 .1 .0 in
+    (s .pre .0, (record { e-most = omega arith; most = r .most; points = r .points }, point-nonzero (now (s .args .nodes)) (r .points) (s .args .i) (s .pre .1 .1 .1 .0)))
 
-put-column-requires : tie.Need-put-column-requires
-put-column-requires c κs =
-    let s = c .before .before .before .before .before .before .before .before .before .before .before .before .before .before .before .before .before .before in
-    let n = slice-aggregate-put-column (c .before) in
-    (s .pre .0, (s .pre .1 .0, (c .before .before .opposite .ensures .0, ((omega (arith, n), omega (arith, n, s .pre .1 .1 .0 .most)), s .pre .1 .1 .0 .room ∙ ap₂ (λ (x y : ℕ). x * y) n n))))
+opposite-requires-2 : tie.Need-opposite-requires-2 Inv-loop μ-loop
+opposite-requires-2 c κs = search needs
 
-same-length : tie.Need-same-length
-same-length c = search needs
+add-reduced : tie.Need-add-reduced Inv-loop μ-loop
+add-reduced c = search needs
 
-same-length-2 : tie.Need-same-length-2
-same-length-2 c = search needs
+reduced-requires : tie.Need-reduced-requires Inv-loop μ-loop
+reduced-requires c κs = search needs
 
-returns : tie.Need-returns
+add-reduced-2 : tie.Need-add-reduced-2 Inv-loop μ-loop
+add-reduced-2 c = search needs
+
+reduced-requires-2 : tie.Need-reduced-requires-2 Inv-loop μ-loop
+reduced-requires-2 c κs = search needs
+
+shared-slice-read-lead : tie.Need-shared-slice-read-lead Inv-loop μ-loop
+shared-slice-read-lead c = search needs
+
+-- where the call began, as the loop sees it
+abbrev start : tie.After-shared-slice-known7 Inv-loop μ-loop → tie.Start Inv-loop μ-loop
+start c = c .before .before .before .before .before .before .before .before .before .before .before .before .before .before .before
+
+-- entry j of the column is within the rows
+place : (c : tie.After-shared-slice-known7 Inv-loop μ-loop) (j : ℕ) → j < length (now (start c .args .product)) → j * length (now (start c .args .nodes)) + start c .args .i < length (now (start c .args .rows))
+place c j h =
+    let s = start c in
+    subst (λ (k : ℕ). j * length (now (s .args .nodes)) + s .args .i < k) (sym (s .pre .1 .1 .0 .room)) (cell-lt _ _ j (s .args .i) h (s .pre .1 .1 .1 .0))
+
+-- .. and these have no more than 1,024 entries
+small : (c : tie.After-shared-slice-known7 Inv-loop μ-loop) → length (now (start c .args .rows)) ≤ 1024
+small c = let r = start c .pre .1 .1 .0 in subst (λ (k : ℕ). k ≤ 1024) (sym (r .room)) (areas-fit _ _ (omega (arith, r .few, r .most)) (r .most))
+
+-- the exponent that divides by the node's point
+inverse : (c : tie.After-shared-slice-known7 Inv-loop μ-loop) → mul (point (getD (now (start c .args .nodes)) (start c .args .i) 0)) (pow 2 (c .before .before .before .before .before .before .opposite .result)) ≡ 1
+inverse c =
+    let o = c .before .before .before .before .before .before in
+    ap (λ (k : ℕ). mul k (pow 2 (o .opposite .result))) (sym (o .before .exponent .ensures .1 ∙ o .before .before .point .ensures)) ∙ o .opposite .ensures .1
+
+-- .. and the one that divides by what the quotient, times z, is there
+weight : (c : tie.After-shared-slice-known7 Inv-loop μ-loop) → mul (apart 0 (pointsOf (now (start c .args .nodes))) (point (getD (now (start c .args .nodes)) (start c .args .i) 0)) (point (getD (now (start c .args .nodes)) (start c .args .i) 0))) (pow 2 (c .before .before .before .opposite2 .result)) ≡ 1
+weight c =
+    let o = c .before .before .before in
+    ap (λ (k : ℕ). mul k (pow 2 (o .opposite2 .result))) (sym (o .before .spread .ensures .1)) ∙ o .opposite2 .ensures .1
+
+-- the first entry is written
+lead-is : (c : tie.After-shared-slice-known7 Inv-loop μ-loop) → getD (now (start c .args .exps)) (c .before .reduced2 .result) 0 ≡ basis (now (start c .args .nodes)) (start c .args .i) 0
+lead-is c =
+    let s = start c in
+    let r = c .before in
+    power-at (now (s .args .exps)) (s .pre .1 .0) (r .reduced2 .result) (r .reduced2 .ensures .0)
+    ∙ lead-first (now (s .args .nodes)) (s .pre .1 .1 .0 .points) (s .args .i) (s .pre .1 .1 .1 .0) _ _ (inverse c) (weight c) (s .args .first) (r .before .reduced .result) _ (s .pre .1 .1 .1 .1 .0 .1) (r .before .reduced .ensures .1) (r .reduced2 .ensures .1)
+
+one : (c : tie.After-shared-slice-known7 Inv-loop μ-loop) → Climbed (now (start c .args .nodes)) (start c .args .i) 1 (now (start c .args .rows)) (set (now (start c .args .rows)) (start c .args .i) (getD (now (start c .args .exps)) (c .before .reduced2 .result) 0))
+one c =
+    let s = start c in
+    let first : s .args .i ≡ 0 * length (now (s .args .nodes)) + s .args .i = omega arith in
+    climbed-more (length (now (s .args .product))) _ _ 0 _ _ _ _ (s .pre .1 .1 .1 .0) (s .pre .1 .1 .0 .some) (s .pre .1 .1 .0 .room) first (lead-is c) (climbed-none _ _ _)
+
+slice-write-rows : tie.Need-slice-write-rows Inv-loop μ-loop
+slice-write-rows c = omega (arith, place c 0 (start c .pre .1 .1 .0 .some))
+
+loop-holds : tie.Need-loop-holds Inv-loop μ-loop
+loop-holds c = (omega arith, start c .pre .1 .1 .0 .some, lead-is c, climbed-here _ _ _ _ _ (one c))
+
+shared-slice-read-raised : tie.Need-shared-slice-read-raised Inv-loop μ-loop
+shared-slice-read-raised c = search needs
+
+raised-requires : tie.Need-raised-requires Inv-loop μ-loop
+raised-requires c κs = search needs
+
+raised-requires-2 : tie.Need-raised-requires-2 Inv-loop μ-loop
+raised-requires-2 c κs = search needs
+
+mul-rows : tie.Need-mul-rows Inv-loop μ-loop
+mul-rows c = omega (arith, place (c .before .before .before .before .before) (c .before .before .before .before .loop .j) (search needs), small (c .before .before .before .before .before))
+
+add-rows : tie.Need-add-rows Inv-loop μ-loop
+add-rows c = omega (arith, place (c .before .before .before .before .before) (c .before .before .before .before .loop .j) (search needs), small (c .before .before .before .before .before))
+
+slice-write-rows-2 : tie.Need-slice-write-rows-2 Inv-loop μ-loop
+slice-write-rows-2 c =
+    let k = c .before .before .before .before .before in
+    let l = c .before .before .before .before .loop in
+    omega (arith, place k (l .j) (search needs), l .inv .3 .same, length-set (now (start k .args .rows)) (start k .args .i) (getD (now (start k .args .exps)) (k .before .reduced2 .result) 0))
+
+add-j : tie.Need-add-j Inv-loop μ-loop
+add-j c = let r = start (c .before .before .before .before .before) .pre .1 .1 .0 in omega (arith, r .few, r .most)
+
+loop-less : tie.Need-loop-less Inv-loop μ-loop
+loop-less c = search needs
+
+loop-again : tie.Need-loop-again Inv-loop μ-loop
+unfolding add
+loop-again c =
+    let k = c .before .before .before .before .before in
+    let l = c .before .before .before .before .loop in
+    let s = start k in
+    let nodes = now (s .args .nodes) in
+    let top : l .j ≡ suc (l .j - 1) = omega (arith, l .inv .0) in
+    let next : l .j + 1 - 1 ≡ l .j = omega arith in
+    let here : c .raised2 .result ≡ basis nodes (s .args .i) (l .j) =
+    c .raised2 .ensures ∙ ap (λ (y : ℕ). mul (add (l .lead) y) (pow 2 (k .before .before .before .before .before .before .opposite .result))) (c .before .raised .ensures)
+    ∙ lead-next nodes (s .pre .1 .1 .0 .points) (s .args .i) (s .pre .1 .1 .1 .0) _ _ (inverse k) (weight k) (l .j - 1) (l .lead) _ (l .inv .2) (s .pre .1 .1 .1 .1 .1 (l .j) (search needs) ∙ ap (productAt nodes (length nodes)) top)
+    ∙ ap (basis nodes (s .args .i)) (sym top) in (
+      omega arith,
+      search needs,
+      here ∙ ap (basis nodes (s .args .i)) (sym next),
+      climbed-more (length (now (s .args .product))) nodes (s .args .i) (l .j) _ _ (l .rows) _ (s .pre .1 .1 .1 .0) (search needs)
+          (length-set (now (s .args .rows)) (s .args .i) (getD (now (s .args .exps)) (k .before .reduced2 .result) 0) ∙ s .pre .1 .1 .0 .room) refl here (l .inv .3),
+    )
+
+same-length : tie.Need-same-length Inv-loop μ-loop
+same-length c =
+    let k = c .before .before in
+    c .before .loop .inv .3 .same ∙ length-set (now (start k .args .rows)) (start k .args .i) (getD (now (start k .args .exps)) (k .before .reduced2 .result) 0)
+
+returns : tie.Need-returns Inv-loop μ-loop
 returns c =
-    let s = c .before .before .before .before .before .before .before .before .before .before .before .before .before .before .before .before .before .before .before .before .before in
-    let d = c .before .before .before .before .before .before .before .before .before .before in
-    let l = c .before .before .before .before .before .before .before .exponent2 in
-    let e = c .before .before .before .before .before .before .reduced in
-    let o = c .before .before .before .before .before .opposite in
-    let one : mul (mul (d .divide .result) (point (getD (now (s .args .nodes)) (s .args .i) 0))) (pow 2 (o .result)) ≡ 1 =
-    ap (λ (k : ℕ). mul k (pow 2 (o .result))) (sym (e .ensures .1 ∙ pow-add 2 (l .result) (d .before .before .exponent .result) ∙ ap₂ mul (l .ensures .1) (exponent-right d)))
-    ∙ o .ensures .1 in
-    basis-put (now (s .args .nodes)) (s .pre .1 .1 .0 .points) _ (bytes d) (s .pre .1 .1 .1 .1) (s .args .i) (s .pre .1 .1 .1 .0 .0) _ (quotient-count d) _ (quotient-right d) _ _ _
-    (subst (λ (list : List ℕ). Column (pow 2 (o .result)) (s .args .i) list (now (s .args .rows)) (c .before .before .put-column .last .1 .1 .1 .1 .1 .0)) (buffer-front _ (d .divide .last .1 .1 .1 .1 .0) _ (quotient-count d)) (c .before .before .put-column .ensures))
-    one
+    let l = c .before .loop in
+    climbed-all _ _ _ (l .j) _ _ (omega arith) (climbed-on _ _ 1 (l .j) _ _ (l .rows) (one (c .before .before)) (l .inv .3))
 
 pub fill-column-spec : {M : Type 1} → statement M
 fill-column-spec =
     tie.close
     (tie.spec
-    shared-slice-read-t14
+    Inv-loop
+    μ-loop
+    shared-slice-read-spread
     point-requires
     exponent-requires
-    slice-relend-prefix-divide
-    slice-aggregate-divide
-    divide-requires
-    exponent-requires-2
+    opposite-requires
+    shared-slice-read-spread-2
+    spread-requires
+    opposite-requires-2
     add-reduced
     reduced-requires
-    opposite-requires
-    slice-reshare-prefix-put-column
-    slice-aggregate-put-column
-    put-column-requires
+    add-reduced-2
+    reduced-requires-2
+    shared-slice-read-lead
+    slice-write-rows
+    loop-holds
+    shared-slice-read-raised
+    raised-requires
+    raised-requires-2
+    mul-rows
+    add-rows
+    slice-write-rows-2
+    add-j
+    loop-less
+    loop-again
     same-length
-    same-length-2
     returns)

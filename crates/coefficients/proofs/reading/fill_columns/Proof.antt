@@ -11,20 +11,20 @@ use Rattle.coefficients.proofs.reading.fill_columns.Statement.{statemen
 use Rattle.coefficients.proofs.reading.fill_columns.Tie as tie
 
 abbrev Inv-loop : tie.InvT-loop
-Inv-loop logs exps nodes product room₀ rows₀ i₀ room rows i = (i ≤ length nodes) × (length room ≡ length room₀) × (length rows ≡ length rows₀) × BasisRows nodes i rows
+Inv-loop logs exps nodes first product rows₀ i₀ rows i = (i ≤ length nodes) × (length rows ≡ length rows₀) × BasisRows (length product) nodes i rows
 
 abbrev μ-loop : tie.MeasureT-loop
-μ-loop logs exps nodes product room₀ rows₀ i₀ room rows i = length nodes - i
+μ-loop logs exps nodes first product rows₀ i₀ rows i = length nodes - i
 
 loop-holds : tie.Need-loop-holds Inv-loop μ-loop
-loop-holds c = (omega arith, refl, refl, λ k h. absurd (omega arith))
+loop-holds c = (omega arith, refl, λ k j h. absurd (omega arith))
 
 fill-column-requires : tie.Need-fill-column-requires Inv-loop μ-loop
 fill-column-requires c κs =
-    let s = c .before .before .before .before .before .before .before .before .before .before in
-    let l = c .before .before .before .loop in
+    let s = c .before .before .before .before .before .before .before .before in
+    let l = c .before .before .loop in
     let r = s .pre .1 .1 .0 in
-    (s .pre .0, (s .pre .1 .0, (record { most = r .most; points = r .points; room = l .inv .2 ∙ r .room }, ((omega arith, s .pre .1 .1 .1 .0 .0, omega (arith, l .inv .1)), s .pre .1 .1 .1 .1))))
+    (s .pre .0, (s .pre .1 .0, (record { some = r .some; few = r .few; most = r .most; points = r .points; room = l .inv .1 ∙ r .room }, (omega arith, (s .pre .1 .1 .1 .0, s .pre .1 .1 .1 .1)))))
 
 add-i : tie.Need-add-i Inv-loop μ-loop
 add-i c = search needs
@@ -34,26 +34,22 @@ loop-less c = search needs
 
 loop-again : tie.Need-loop-again Inv-loop μ-loop
 loop-again c =
-    let s = c .before .before .before .before .before .before .before .before .before .before .before .before .before .before .before in
-    let l = c .before .before .before .before .before .before .before .before .loop in
-    let f = c .before .before .before .before .fill-column in (
+    let s = c .before .before .before .before .before .before .before .before .before .before .before in
+    let l = c .before .before .before .before .before .loop in
+    let f = c .before .before .fill-column in (
       omega arith,
-      f .kept .1 .1 .1 .1 .1 .0 ∙ l .inv .1,
-      f .kept .1 .1 .1 .1 .1 .1 .0 ∙ l .inv .2,
-      basis-more (now (s .args .nodes)) (l .i) (l .rows) _ (omega arith) (f .ensures) (l .inv .3),
+      f .kept .1 .1 .1 .1 .1 .1 .0 ∙ l .inv .1,
+      basis-more _ (now (s .args .nodes)) (l .i) (l .rows) _ (omega arith) (f .ensures) (l .inv .2),
     )
 
 same-length : tie.Need-same-length Inv-loop μ-loop
 same-length c = c .before .loop .inv .1
 
-same-length-2 : tie.Need-same-length-2 Inv-loop μ-loop
-same-length-2 c = c .before .loop .inv .2
-
 returns : tie.Need-returns Inv-loop μ-loop
 returns c =
-    let nodes = now (c .before .before .before .before .before .before .before .before .args .nodes) in
-    let e : c .before .loop .i ≡ length nodes = omega arith in
-    subst (λ (k : ℕ). BasisRows nodes k (c .before .loop .rows)) e (c .before .loop .inv .3)
+    let s = c .before .before .before .before .before .before .before in
+    let e : c .before .loop .i ≡ length (now (s .args .nodes)) = omega arith in
+    subst (λ (k : ℕ). BasisRows (length (now (s .args .product))) (now (s .args .nodes)) k (c .before .loop .rows)) e (c .before .loop .inv .2)
 
 pub fill-columns-spec : {M : Type 1} → statement M
 fill-columns-spec =
@@ -67,5 +63,4 @@ fill-columns-spec =
     loop-less
     loop-again
     same-length
-    same-length-2
     returns)

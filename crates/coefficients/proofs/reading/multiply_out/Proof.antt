@@ -1,18 +1,18 @@
--- After d turns the product of the first d factors is there. Assumes nothing.
+-- After d turns the product of the first d factors is there, as far as it goes. Assumes nothing.
 use mathlib.Core.Path.{_≡_, refl, sym, _∙_, subst}
 use Prim.Native.Nat.{ℕ, _-_, _≤_}
 use native.Mathlib.Omega.{arith}
 use borrow.Author.Needs.{needs}
 use denote.Ref.{now}
 use lib.ListN.{length, length-set}
-use Rattle.coefficients.specs.Working.{Product}
+use Rattle.coefficients.specs.Working.{Lowest}
 use Rattle.coefficients.proofs.Values.{point-nonzero}
-use Rattle.coefficients.proofs.Basis.{product-none, product-more}
+use Rattle.coefficients.proofs.Basis.{lowest-none, lowest-more}
 use Rattle.coefficients.proofs.reading.multiply_out.Statement.{statement}
 use Rattle.coefficients.proofs.reading.multiply_out.Tie as tie
 
 abbrev Inv-loop : tie.InvT-loop
-Inv-loop logs exps nodes product₀ d₀ product d = (d ≤ length nodes) × (length product ≡ length product₀) × Product nodes d product
+Inv-loop logs exps nodes product₀ d₀ product d = (d ≤ length nodes) × (length product ≡ length product₀) × Lowest nodes d product
 
 abbrev μ-loop : tie.MeasureT-loop
 μ-loop logs exps nodes product₀ d₀ product d = length nodes - d
@@ -21,7 +21,7 @@ slice-write-product : tie.Need-slice-write-product Inv-loop μ-loop
 slice-write-product c = search needs
 
 loop-holds : tie.Need-loop-holds Inv-loop μ-loop
-loop-holds c = (omega arith, refl, product-none _ (now (c .before .before .before .before .args .product)) (omega arith) (c .before .before .before .before .pre .1 .1 .1 .1))
+loop-holds c = (omega arith, refl, lowest-none _ (now (c .before .before .before .before .args .product)) (search needs) (c .before .before .before .before .pre .1 .1 .1 .1))
 
 shared-slice-read-t12 : tie.Need-shared-slice-read-t12 Inv-loop μ-loop
 shared-slice-read-t12 c = search needs
@@ -38,7 +38,7 @@ widen-requires : tie.Need-widen-requires Inv-loop μ-loop
 widen-requires c κs =
     let s = c .before .before .before .before .before .before .before .before .before .before in
     let l = c .before .before .before .before .before .loop in
-    (s .pre .0, (s .pre .1 .0, (c .before .exponent .ensures .0, (omega (arith, l .inv .1, length-set (now (s .args .product)) 0 1), l .inv .2 .above))))
+    (s .pre .0, (s .pre .1 .0, (c .before .exponent .ensures .0, omega (arith, s .pre .1 .1 .1 .0, l .inv .1, length-set (now (s .args .product)) 0 1))))
 
 add-d : tie.Need-add-d Inv-loop μ-loop
 add-d c = search needs
@@ -52,8 +52,8 @@ loop-again c =
     let l = c .before .before .before .before .before .before .before .before .loop in
     let w = c .before .before .widen in (
       omega arith,
-      w .kept .1 .1 .1 .1 .0 ∙ l .inv .1,
-      product-more (now (s .args .nodes)) (l .d) _ (l .product) _ (c .before .before .before .before .exponent .ensures .1 ∙ c .before .before .before .before .before .point .ensures) (w .ensures) (l .inv .2),
+      w .kept .1 .1 .1 .0 ∙ l .inv .1,
+      lowest-more (now (s .args .nodes)) (s .pre .1 .1 .0) (l .d) (omega arith) _ (l .product) _ (c .before .before .before .before .exponent .ensures .1 ∙ c .before .before .before .before .before .point .ensures) (w .kept .1 .1 .1 .0) (w .ensures) (l .inv .2),
     )
 
 same-length : tie.Need-same-length Inv-loop μ-loop
@@ -63,7 +63,7 @@ returns : tie.Need-returns Inv-loop μ-loop
 returns c =
     let nodes = now (c .before .before .before .before .before .before .args .nodes) in
     let e : c .before .loop .d ≡ length nodes = omega arith in
-    subst (λ (k : ℕ). Product nodes k (c .before .loop .product)) e (c .before .loop .inv .2)
+    subst (λ (k : ℕ). Lowest nodes k (c .before .loop .product)) e (c .before .loop .inv .2)
 
 pub multiply-out-spec : {M : Type 1} → statement M
 multiply-out-spec =

@@ -1,26 +1,26 @@
 -- From the top down: the entries above j are those of the product, the others as they were. Assumes nothing.
 use mathlib.Core.Path.{ap}
-use Prim.Native.Nat.{_+_, _-_, _≤_}
+use Prim.Native.Nat.{_-_, _<_}
 use native.Mathlib.Omega.{arith}
 use borrow.Author.Needs.{needs}
 use denote.Ref.{now}
-use lib.ListN.{getD, length-set}
+use lib.ListN.{length, getD, length-set}
 use Rattle.field.specs.Field.{add, pow}
 use Rattle.coefficients.proofs.Basis.{Widening, widening-none, widening-more, widened}
 use Rattle.coefficients.proofs.reading.widen.Statement.{statement}
 use Rattle.coefficients.proofs.reading.widen.Tie as tie
 
 abbrev Inv-loop : tie.InvT-loop
-Inv-loop logs exps x d p₀ j₀ p j = (j ≤ d + 1) × Widening (pow 2 x) j p₀ p
+Inv-loop logs exps x p₀ j₀ p j = (j < length p₀) × Widening (pow 2 x) j p₀ p
 
 abbrev μ-loop : tie.MeasureT-loop
-μ-loop logs exps x d p₀ j₀ p j = j
+μ-loop logs exps x p₀ j₀ p j = j
 
-add-j : tie.Need-add-j Inv-loop μ-loop
-add-j c = search needs
+sub-j : tie.Need-sub-j Inv-loop μ-loop
+sub-j c = search needs
 
 loop-holds : tie.Need-loop-holds Inv-loop μ-loop
-loop-holds c = (omega arith, widening-none _ _ _ (c .before .before .before .pre .1 .1 .1 .1))
+loop-holds c = (omega arith, widening-none _ _ (search needs))
 
 sub-p : tie.Need-sub-p Inv-loop μ-loop
 sub-p c = search needs
@@ -37,8 +37,8 @@ raised-requires c κs = search needs
 slice-write-p : tie.Need-slice-write-p Inv-loop μ-loop
 slice-write-p c = search needs
 
-sub-j : tie.Need-sub-j Inv-loop μ-loop
-sub-j c = search needs
+sub-j-2 : tie.Need-sub-j-2 Inv-loop μ-loop
+sub-j-2 c = search needs
 
 loop-less : tie.Need-loop-less Inv-loop μ-loop
 loop-less c = search needs
@@ -73,14 +73,14 @@ widen-spec =
     (tie.spec
     Inv-loop
     μ-loop
-    add-j
+    sub-j
     loop-holds
     sub-p
     slice-read-p
     slice-read-raised
     raised-requires
     slice-write-p
-    sub-j
+    sub-j-2
     loop-less
     loop-again
     slice-read-raised-2
