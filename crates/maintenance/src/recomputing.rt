@@ -6,8 +6,9 @@ use coefficients::places_of;
 use kernels::add_product;
 use params::NodeSet;
 use params::Params;
-ghost use mathlib.Core.Path.{_≡_};
+ghost use Prim.Native.Nat.{_+_, _*_, _≤_};
 ghost use lib.ListN.{length};
+ghost use Rattle.params.specs.Nodes.{size};
 ghost use Rattle.maintenance.specs.Cores.{Extendable, Extended, Recomputable, Recomputed};
 
 // fresh := the targets' blocks, in rising order, of the pair that gives from's blocks
@@ -37,7 +38,7 @@ pub(crate) fn recompute(
 }
 
 // At each byte place message has the e leading coefficients of a polynomial, and z's blocks at the places its values at the nodes of at. out := its values
-// at the targets.
+// at the targets. Room for the rows is no more than is wanted, since it is cleared at each call.
 pub(crate) fn extend(
     b: usize,
     e: usize,
@@ -51,8 +52,42 @@ pub(crate) fn extend(
     requires { ⌜ Extendable b e (at .0) (targets .0) (now places) (length (now message)) (length (now z)) (length (now out)) ⌝ }
     ensures { λ _. ⌜ Extended b e (at .0) (targets .0) (now (message .entry)) (now (z .entry)) (now (places .entry)) (now (out .exit)) ⌝ }
 {
+    if targets.size() * (e + at.size()) <= 128 {
+        extend_narrow(b, e, at, targets, message, z, places, out);
+        return;
+    }
     let mut leading = [0u8; 1024];
     let mut gains = [0u8; 1024];
+    extend_within(
+        b,
+        e,
+        at,
+        targets,
+        message,
+        z,
+        places,
+        &mut leading,
+        &mut gains,
+        out,
+    );
+}
+
+fn extend_narrow(
+    b: usize,
+    e: usize,
+    at: NodeSet,
+    targets: NodeSet,
+    message: &[u8],
+    z: &[u8],
+    places: &[u8],
+    out: &mut [u8],
+)
+    requires { ⌜ Extendable b e (at .0) (targets .0) (now places) (length (now message)) (length (now z)) (length (now out)) ⌝ }
+    requires { ⌜ size (targets .0) * (e + size (at .0)) ≤ 128 ⌝ }
+    ensures { λ _. ⌜ Extended b e (at .0) (targets .0) (now (message .entry)) (now (z .entry)) (now (places .entry)) (now (out .exit)) ⌝ }
+{
+    let mut leading = [0u8; 128];
+    let mut gains = [0u8; 128];
     extend_within(
         b,
         e,
@@ -81,7 +116,7 @@ fn extend_within(
     out: &mut [u8],
 )
     requires { ⌜ Extendable b e (at .0) (targets .0) (now places) (length (now message)) (length (now z)) (length (now out)) ⌝ }
-    requires { ⌜ (length (now leading) ≡ 1024) × (length (now gains) ≡ 1024) ⌝ }
+    requires { ⌜ (size (targets .0) * e ≤ length (now leading)) × (size (targets .0) * size (at .0) ≤ length (now gains)) ⌝ }
     ensures { λ _. ⌜ Extended b e (at .0) (targets .0) (now (message .entry)) (now (z .entry)) (now (places .entry)) (now (out .exit)) ⌝ }
 {
     let rows = targets.size();

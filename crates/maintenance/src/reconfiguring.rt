@@ -36,7 +36,59 @@ pub fn reconfigure(
 }
 
 // An accepted call: makes room for blocks twice, no more than is wanted, since room is cleared at each call. No set of the new nodes has more blocks than out.
+// As in `repair_blocks`, the larger rooms have a function with two callers.
 fn rearrange(
+    a: Params,
+    shape: Shape,
+    codeword: &[u8],
+    from: NodeSet,
+    to: NodeSet,
+    message: &[u8],
+    out: &mut [u8],
+)
+    requires { ⌜ ReconfigureAccepted a shape (length (now codeword)) (length (now out)) (length (now message)) (from .0) (to .0) ⌝ }
+    ensures { λ _. ⌜ Reconfigured a shape (now (codeword .entry)) (from .0) (to .0) (now (message .entry)) (now (out .exit)) ⌝ }
+{
+    if 512 < a.b {
+        rearrange_large(a, shape, codeword, from, to, message, out);
+        return;
+    }
+    if out.len() <= 128 {
+        rearrange_least(a, shape, codeword, from, to, message, out);
+        return;
+    }
+    rearrange_large(a, shape, codeword, from, to, message, out);
+}
+
+fn rearrange_least(
+    a: Params,
+    shape: Shape,
+    codeword: &[u8],
+    from: NodeSet,
+    to: NodeSet,
+    message: &[u8],
+    out: &mut [u8],
+)
+    requires { ⌜ ReconfigureAccepted a shape (length (now codeword)) (length (now out)) (length (now message)) (from .0) (to .0) ⌝ }
+    requires { ⌜ length (now out) ≤ 128 ⌝ }
+    ensures { λ _. ⌜ Reconfigured a shape (now (codeword .entry)) (from .0) (to .0) (now (message .entry)) (now (out .exit)) ⌝ }
+{
+    let mut z = [0u8; 128];
+    let mut fresh = [0u8; 128];
+    rearrange_within(
+        a,
+        shape,
+        codeword,
+        from,
+        to,
+        message,
+        &mut z,
+        &mut fresh,
+        out,
+    );
+}
+
+fn rearrange_large(
     a: Params,
     shape: Shape,
     codeword: &[u8],

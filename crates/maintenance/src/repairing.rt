@@ -22,8 +22,33 @@ pub fn repair(a: Params, codeword: &mut [u8], from: NodeSet, lost: NodeSet) -> u
     0
 }
 
-// An accepted call: makes room for the lost blocks, no more than is wanted, since room is cleared at each call.
+// An accepted call: makes room for the lost blocks, no more than is wanted, since room is cleared at each call. The larger rooms have a function with two callers:
+// the compiler does not make that part of this one, and so a small call takes no stack for them.
 fn repair_blocks(a: Params, codeword: &mut [u8], from: NodeSet, lost: NodeSet)
+    requires { ⌜ RepairAccepted a (length (now codeword)) (from .0) (lost .0) ⌝ }
+    ensures { λ _. ⌜ Repaired a (now (codeword .entry)) (from .0) (lost .0) (now (codeword .exit)) ⌝ }
+{
+    if 512 < a.b {
+        repair_large(a, codeword, from, lost);
+        return;
+    }
+    if lost.size() * a.b <= 128 {
+        repair_least(a, codeword, from, lost);
+        return;
+    }
+    repair_large(a, codeword, from, lost);
+}
+
+fn repair_least(a: Params, codeword: &mut [u8], from: NodeSet, lost: NodeSet)
+    requires { ⌜ RepairAccepted a (length (now codeword)) (from .0) (lost .0) ⌝ }
+    requires { ⌜ size (lost .0) * a .b ≤ 128 ⌝ }
+    ensures { λ _. ⌜ Repaired a (now (codeword .entry)) (from .0) (lost .0) (now (codeword .exit)) ⌝ }
+{
+    let mut fresh = [0u8; 128];
+    repair_within(a, codeword, from, lost, &mut fresh);
+}
+
+fn repair_large(a: Params, codeword: &mut [u8], from: NodeSet, lost: NodeSet)
     requires { ⌜ RepairAccepted a (length (now codeword)) (from .0) (lost .0) ⌝ }
     ensures { λ _. ⌜ Repaired a (now (codeword .entry)) (from .0) (lost .0) (now (codeword .exit)) ⌝ }
 {

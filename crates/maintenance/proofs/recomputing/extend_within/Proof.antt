@@ -1,6 +1,6 @@
--- Few rows of few coefficients, so there is room for them; then two products, added to zeros. Assumes nothing.
-use mathlib.Core.Path.{_≡_, sym, _∙_}
-use Prim.Native.Nat.{_*_, _≤_}
+-- There is room for the rows of coefficients; then two products, added to zeros. Assumes nothing.
+use mathlib.Core.Path.{_≡_, sym, ap₂, _∙_, subst⁻¹}
+use Prim.Native.Nat.{ℕ, _*_, _≤_}
 use native.Mathlib.Omega.{arith}
 use borrow.Author.Needs.{needs}
 use denote.Ref.{now}
@@ -26,10 +26,10 @@ module _ (c : tie.After-size2) where
   nodes-most = omega (arith, c .size2 .ensures, size-most (c .before .before .before .before .before .before .before .before .args .at .0) (omega arith))
 
   leading-fits : c .before .size .result * c .before .before .before .before .before .before .before .before .args .e ≤ length (now (c .before .before .before .before .before .before .before .before .args .leading))
-  leading-fits = omega (arith, areas-fit _ _ rows-most (c .before .before .before .before .before .before .before .before .pre .0 .most), c .before .before .before .before .before .before .before .before .pre .1 .0)
+  leading-fits = subst⁻¹ (λ (k : ℕ). k * c .before .before .before .before .before .before .before .before .args .e ≤ length (now (c .before .before .before .before .before .before .before .before .args .leading))) (c .before .size .ensures) (c .before .before .before .before .before .before .before .before .pre .1 .0)
 
   gains-fit : c .before .size .result * c .size2 .result ≤ length (now (c .before .before .before .before .before .before .before .before .args .gains))
-  gains-fit = omega (arith, areas-fit _ _ rows-most nodes-most, c .before .before .before .before .before .before .before .before .pre .1 .1)
+  gains-fit = subst⁻¹ (λ (k : ℕ). k ≤ length (now (c .before .before .before .before .before .before .before .before .args .gains))) (ap₂ _*_ (c .before .size .ensures) (c .size2 .ensures)) (c .before .before .before .before .before .before .before .before .pre .1 .1)
 
 -- the targets, as many as there are rows
 rows-count : (c : tie.After-in-order) → c .before .before .size .result ≡ length (take (c .before .before .size .result) (c .in-order .result))
@@ -44,10 +44,10 @@ module _ (c : tie.After-completion-rows) where
   gains-back = c .completion-rows .ensures .same-gains ∙ length-take-le _ _ (gains-fit (c .before .before .before .before .before))
 
 mul-first : tie.Need-mul-first
-mul-first c = omega (arith, leading-fits c, c .before .before .before .before .before .before .before .before .pre .1 .0)
+mul-first c = omega (arith, areas-fit (c .before .size .result) (c .before .before .before .before .before .before .before .before .args .e) (rows-most c) (c .before .before .before .before .before .before .before .before .pre .0 .most))
 
 mul-second : tie.Need-mul-second
-mul-second c = omega (arith, gains-fit c, c .before .before .before .before .before .before .before .before .pre .1 .1)
+mul-second c = omega (arith, areas-fit (c .before .size .result) (c .size2 .result) (rows-most c) (nodes-most c))
 
 in-order-requires : tie.Need-in-order-requires
 in-order-requires c κs = search needs
