@@ -24,8 +24,31 @@ pub fn check(a: Params, codeword: &[u8]) -> Verdict
     check_blocks(a, codeword)
 }
 
-// An accepted call: makes room for the blocks of the nodes behind the first r, no more than is wanted, since room is cleared at each call.
+// An accepted call: makes room for the blocks of the nodes behind the first r, no more than is wanted, since room is cleared at each call. As in
+// `repair_blocks`, the larger rooms have a function with two callers.
 fn check_blocks(a: Params, codeword: &[u8]) -> Verdict
+    requires { ⌜ CheckAccepted a (length (now codeword)) ⌝ }
+    ensures { λ r. ⌜ Served a (now (codeword .entry)) r ⌝ }
+{
+    if 512 < a.b {
+        return check_large(a, codeword);
+    }
+    if (a.n - a.r) * a.b <= 128 {
+        return check_least(a, codeword);
+    }
+    check_large(a, codeword)
+}
+
+fn check_least(a: Params, codeword: &[u8]) -> Verdict
+    requires { ⌜ CheckAccepted a (length (now codeword)) ⌝ }
+    requires { ⌜ (a .n - a .r) * a .b ≤ 128 ⌝ }
+    ensures { λ r. ⌜ Served a (now (codeword .entry)) r ⌝ }
+{
+    let mut fresh = [0u8; 128];
+    check_within(a, codeword, &mut fresh)
+}
+
+fn check_large(a: Params, codeword: &[u8]) -> Verdict
     requires { ⌜ CheckAccepted a (length (now codeword)) ⌝ }
     ensures { λ r. ⌜ Served a (now (codeword .entry)) r ⌝ }
 {

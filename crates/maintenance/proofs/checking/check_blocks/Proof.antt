@@ -1,30 +1,30 @@
--- The bytes of the nodes behind the first r fit a usize; each of the three rooms is enough for those that it is made for. Assumes nothing.
+-- The bytes of the nodes behind the first r fit a usize, and the smallest room is taken where it is enough. Assumes nothing.
 use native.Mathlib.Omega.{arith}
 use borrow.Author.Needs.{needs}
 use Rattle.gates.proofs.Valid.{blocks-fit}
 use Rattle.maintenance.proofs.checking.check_blocks.Statement.{statement}
 use Rattle.maintenance.proofs.checking.check_blocks.Tie as tie
 
-sub-size : tie.Need-sub-size
-sub-size c = search needs
-
-mul-size : tie.Need-mul-size
-mul-size c = let v = c .before .before .before .pre .valid in blocks-fit v _ (omega arith)
-
-check-few-requires : tie.Need-check-few-requires
-check-few-requires c κs = search needs
+check-large-requires : tie.Need-check-large-requires
+check-large-requires c κs = search needs
 
 returns : tie.Need-returns
 returns c = search needs
 
-check-more-requires : tie.Need-check-more-requires
-check-more-requires c κs = search needs
+sub-if2 : tie.Need-sub-if2
+sub-if2 c = search needs
+
+mul-if2 : tie.Need-mul-if2
+mul-if2 c = let v = c .before .before .before .before .before .pre .valid in blocks-fit v _ (omega arith)
+
+check-least-requires : tie.Need-check-least-requires
+check-least-requires c κs = search needs
 
 returns-2 : tie.Need-returns-2
 returns-2 c = search needs
 
-check-many-requires : tie.Need-check-many-requires
-check-many-requires c κs = search needs
+check-large-requires-2 : tie.Need-check-large-requires-2
+check-large-requires-2 c κs = search needs
 
 returns-3 : tie.Need-returns-3
 returns-3 c = search needs
@@ -33,11 +33,11 @@ pub check-blocks-spec : {M : Type 1} → statement M
 check-blocks-spec =
     tie.close
     (tie.spec
-    sub-size
-    mul-size
-    check-few-requires
+    check-large-requires
     returns
-    check-more-requires
+    sub-if2
+    mul-if2
+    check-least-requires
     returns-2
-    check-many-requires
+    check-large-requires-2
     returns-3)
