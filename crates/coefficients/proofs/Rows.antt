@@ -98,7 +98,7 @@ powers-made e m nodes old new room made = record { written = λ same. made; kept
 -- ---- places
 
 -- what NodeSet::list leaves of 32 places
-module _ (s : ℕ) (h : s < 2 ^ 32) (old l : List ℕ) (room : length old ≡ 32) (lists : Listing s old l) where
+module _ (s : ℕ) (h : s < 2 ^ 32) (old l : List ℕ) (room : length old ≡ 32) {count : ℕ} (lists : Listing s old count l) where
   node-at : (i : ℕ) → i < size s → getD l i 0 ≡ getD (listed s) i 0
   node-at i hi =
       ap (λ (k : List ℕ). getD k i 0) (lists .written room)

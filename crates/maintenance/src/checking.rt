@@ -106,9 +106,8 @@ fn first_other(codeword: &[u8], set: NodeSet, fresh: &[u8], b: usize) -> Verdict
     requires { ⌜ Listing b (set .0) (length (now codeword)) (length (now fresh)) ⌝ }
     ensures { λ r. ⌜ Searched b (set .0) (now (codeword .entry)) (now (fresh .entry)) r ⌝ }
 {
-    let count = set.size();
     let mut nodes = [0u8; 32];
-    set.list(&mut nodes);
+    let count = set.list(&mut nodes);
     let mut i = 0;
     while i < count {
         let node = nodes[i];

@@ -10,9 +10,8 @@ pub(crate) fn put_blocks(codeword: &mut [u8], set: NodeSet, fresh: &[u8], b: usi
     requires { ⌜ Listing b (set .0) (length (now codeword)) (length (now fresh)) ⌝ }
     ensures { λ _. ⌜ Put b (set .0) (now (fresh .entry)) (now (codeword .entry)) (now (codeword .exit)) ⌝ }
 {
-    let count = set.size();
     let mut nodes = [0u8; 32];
-    set.list(&mut nodes);
+    let count = set.list(&mut nodes);
     let mut i = 0;
     while i < count {
         let at = (wide(nodes[i]) - 1) * b;

@@ -253,7 +253,7 @@ disjoint-has l r h = (
     apart true false f = refl
 
 -- what NodeSet::list makes of 32 zeros
-pub listing-zeros : (s : ℕ) (new : List ℕ) → Listing s (replicate 32 0) new → new ≡ nodes (has s) 32 ++ replicate (32 - size s) 0
+pub listing-zeros : {answer : ℕ} (s : ℕ) (new : List ℕ) → Listing s (replicate 32 0) answer new → new ≡ nodes (has s) 32 ++ replicate (32 - size s) 0
 listing-zeros s new l = l .written refl ∙ ap (λ (r : List ℕ). nodes (has s) 32 ++ r) (drop-replicate 32 (size s))
   where
     drop-replicate : (n k : ℕ) → drop k (replicate {A = ℕ} n 0) ≡ replicate (n - k) 0

@@ -15,7 +15,7 @@ use lib.Pow.{pow-pos, shl-exact, shr-lt, shr-shr, shr-le, split, high, ones-spli
 use lib.Seq.{set-at, drop-cons, append-snoc}
 use borrow.Author.Tests.{leb-true, le-leb, eq-eqb}
 use Rattle.base.proofs.Cases.{lt-or}
-use Rattle.params.specs.Nodes.{has, one, count, only, nodes, outside, Listing}
+use Rattle.params.specs.Nodes.{has, size, one, count, only, nodes, outside, Listing}
 use Rattle.params.proofs.Sets.{length-nodes, count-le, rank-lt, nodes-stop, count-stop, range-yes, range-no, size-count, has-past, has-none, has-and}
 
 -- 1 shifted by less than the width
@@ -187,15 +187,16 @@ module _ {s : ℕ} {old out : List ℕ} {at passed rest : ℕ} (w : Walked s old
       ∙ omega (arith, length-nodes (has s) passed, w .at-is, count-le (has s) passed, w .passed-le, length-drop at old, w .room)
 
   -- no bit is left
-  pub walked-all : rest ≡ 0 → Listing s old out
+  pub walked-all : rest ≡ 0 → Listing s old at out
   walked-all e =
       let below : s < 2 ^ passed =
       subst (λ (x : ℕ). s < x) (one-mul (2 ^ passed)) (div-lt-iff-lt-mul (pow-pos passed) .0 (omega (arith, w .left))) in
+      let all : at ≡ size s = w .at-is ∙ sym (size-count passed s below) in
       record {
         written = λ room.
             w .listed
             ∙ ap₂ (λ (l : List ℕ) (n : ℕ). l ++ drop n old)
-            (sym (nodes-stop (has s) passed 32 (w .passed-le) (λ j hj hk. has-past passed s j below hj)))
-            (w .at-is ∙ sym (size-count passed s below));
+            (sym (nodes-stop (has s) passed 32 (w .passed-le) (λ j hj hk. has-past passed s j below hj))) all;
+        counted = λ room. all;
         kept = λ none. absurd (none (w .room));
       }

@@ -44,10 +44,12 @@ unfoldable pub nodes : (ℕ → Bool) → ℕ → List ℕ
 nodes f zero = []
 nodes f (suc n) = nodes f n ++ only (f (suc n)) (suc n)
 
--- The set's nodes in rising order stand at the front of new, and behind them what old had; where old has not 32 places, new is old.
-pub record Listing (s : ℕ) (old new : List ℕ) : Type 0 where
+-- The set's nodes in rising order stand at the front of new, and behind them what old had; the answer is their number. Where old has not 32 places, new is old,
+-- and the answer is 0.
+pub record Listing (s : ℕ) (old : List ℕ) (answer : ℕ) (new : List ℕ) : Type 0 where
   pub written : length old ≡ 32 → new ≡ nodes (has s) 32 ++ drop (size s) old
-  pub kept : (length old ≡ 32 → ⊥) → new ≡ old
+  pub counted : length old ≡ 32 → answer ≡ size s
+  pub kept : (length old ≡ 32 → ⊥) → (new ≡ old) × (answer ≡ 0)
 
 -- The nodes of 1..n outside the set, as a test.
 abbrev pub outside : ℕ → ℕ → ℕ → Bool

@@ -53,13 +53,13 @@ impl NodeSet {
         NodeSet(!self.0 & ((1u32 << n) - 1))
     }
 
-    // The nodes in rising order go to the front of out, which has 32 places; what stands behind them is as it was. Where out has not 32 places, nothing is
-    // written. Each turn passes the nodes up to the next of the set.
-    pub fn list(self, out: &mut [u8])
-        ensures { λ _. ⌜ Listing (self .0) (now (out .entry)) (now (out .exit)) ⌝ }
+    // The nodes in rising order go to the front of out, which has 32 places; what stands behind them is as it was. Gives how many they are. Where out has not 32
+    // places, nothing is written, and the answer is 0. Each turn passes the nodes up to the next of the set.
+    pub fn list(self, out: &mut [u8]) -> usize
+        ensures { λ r. ⌜ Listing (self .0) (now (out .entry)) r (now (out .exit)) ⌝ }
     {
         if out.len() != 32 {
-            return;
+            return 0;
         }
         let mut at: usize = 0;
         let mut passed: u32 = 0;
@@ -71,5 +71,6 @@ impl NodeSet {
             out[at] = passed as u8;
             at += 1;
         }
+        at
     }
 }

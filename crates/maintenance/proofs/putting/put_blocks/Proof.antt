@@ -1,4 +1,5 @@
 -- After i turns the first i nodes have fresh's blocks, and the blocks outside the set are as they were. Assumes nothing.
+use mathlib.Core.Path.{refl}
 use Prim.Native.Nat.{ℕ, _+_, _-_, _*_, _≤_}
 use native.Mathlib.Omega.{arith}
 use borrow.Author.Needs.{needs}
@@ -12,14 +13,11 @@ use Rattle.maintenance.proofs.putting.put_blocks.Statement.{statement}
 use Rattle.maintenance.proofs.putting.put_blocks.Tie as tie
 
 abbrev Inv-loop : tie.InvT-loop
-Inv-loop codeword₀ fresh b count nodes i₀ codeword i =
+Inv-loop codeword₀ fresh b nodes count i₀ codeword i =
     ((set : ℕ) → Listed set count nodes → Listing b set (length codeword₀) (length fresh) → Putting b set fresh i codeword₀ codeword)
 
 abbrev μ-loop : tie.MeasureT-loop
-μ-loop codeword₀ fresh b count nodes i₀ codeword i = count - i
-
-size-requires : tie.Need-size-requires Inv-loop μ-loop
-size-requires c κs = search needs
+μ-loop codeword₀ fresh b nodes count i₀ codeword i = count - i
 
 slice-aggregate-list : tie.Need-slice-aggregate-list Inv-loop μ-loop
 slice-aggregate-list c = search needs
@@ -31,8 +29,8 @@ loop-holds : tie.Need-loop-holds Inv-loop μ-loop
 loop-holds c set g h = putting-none _ _ _ _
 
 -- the nodes, listed
-listed : (c : tie.After-nodes2 Inv-loop μ-loop) → Listed (c .before .before .before .before .before .before .args .set .0) (c .before .before .before .size .result) (c .before .list .last .1 .0)
-listed c = record { word = omega arith; lists = listing-zeros _ _ (c .before .list .ensures); count-is = c .before .before .before .size .ensures }
+listed : (c : tie.After-nodes2 Inv-loop μ-loop) → Listed (c .before .before .before .before .before .args .set .0) (c .before .list .result) (c .before .list .last .1 .0)
+listed c = record { word = omega arith; lists = listing-zeros _ _ (c .before .list .ensures); count-is = c .before .list .ensures .counted refl }
 
 array-read-wide : tie.Need-array-read-wide Inv-loop μ-loop
 array-read-wide c = omega (arith, size-most _ (listed (c .before .before) .word), listed (c .before .before) .count-is)
@@ -42,19 +40,19 @@ wide-requires c κs = search needs
 
 -- the codeword at the head of a turn
 head : (c : tie.At-loop Inv-loop μ-loop)
-    → Putting (c .before .before .before .before .before .before .before .args .b) (c .before .before .before .before .before .before .before .args .set .0) (now (c .before .before .before .before .before .before .before .args .fresh)) (c .loop .i) (now (c .before .before .before .before .before .before .before .args .codeword)) (c .loop .codeword)
-head c = c .loop .inv _ (listed (c .before)) (c .before .before .before .before .before .before .before .pre)
+    → Putting (c .before .before .before .before .before .before .args .b) (c .before .before .before .before .before .before .args .set .0) (now (c .before .before .before .before .before .before .args .fresh)) (c .loop .i) (now (c .before .before .before .before .before .before .args .codeword)) (c .loop .codeword)
+head c = c .loop .inv _ (listed (c .before)) (c .before .before .before .before .before .before .pre)
 
 -- the two blocks end within their lists
 module _ (c : tie.After-wide Inv-loop μ-loop) where
-  held : (c .wide .result - 1) * c .before .before .before .before .before .before .before .before .before .args .b + c .before .before .before .before .before .before .before .before .before .args .b ≤ length (now (c .before .before .before .before .before .before .before .before .before .args .codeword))
-  held = block-held _ _ _ _ _ _ (listed (c .before .before .before)) (c .before .before .before .before .before .before .before .before .before .pre) (c .before .before .loop .i) (c .wide .result) (omega arith) (c .wide .ensures)
+  held : (c .wide .result - 1) * c .before .before .before .before .before .before .before .before .args .b + c .before .before .before .before .before .before .before .before .args .b ≤ length (now (c .before .before .before .before .before .before .before .before .args .codeword))
+  held = block-held _ _ _ _ _ _ (listed (c .before .before .before)) (c .before .before .before .before .before .before .before .before .pre) (c .before .before .loop .i) (c .wide .result) (omega arith) (c .wide .ensures)
 
-  held-fresh : c .before .before .loop .i * c .before .before .before .before .before .before .before .before .before .args .b + c .before .before .before .before .before .before .before .before .before .args .b ≤ length (now (c .before .before .before .before .before .before .before .before .before .args .fresh))
-  held-fresh = fresh-held _ _ _ _ _ _ (listed (c .before .before .before)) (c .before .before .before .before .before .before .before .before .before .pre) (c .before .before .loop .i) (c .wide .result) (omega arith) (c .wide .ensures)
+  held-fresh : c .before .before .loop .i * c .before .before .before .before .before .before .before .before .args .b + c .before .before .before .before .before .before .before .before .args .b ≤ length (now (c .before .before .before .before .before .before .before .before .args .fresh))
+  held-fresh = fresh-held _ _ _ _ _ _ (listed (c .before .before .before)) (c .before .before .before .before .before .before .before .before .pre) (c .before .before .loop .i) (c .wide .result) (omega arith) (c .wide .ensures)
 
 sub-at : tie.Need-sub-at Inv-loop μ-loop
-sub-at c = omega (arith, node-low _ _ _ _ _ _ (listed (c .before .before .before)) (c .before .before .before .before .before .before .before .before .before .pre) (c .before .before .loop .i) (c .wide .result) (omega arith) (c .wide .ensures))
+sub-at c = omega (arith, node-low _ _ _ _ _ _ (listed (c .before .before .before)) (c .before .before .before .before .before .before .before .before .pre) (c .before .before .loop .i) (c .wide .result) (omega arith) (c .wide .ensures))
 
 mul-at : tie.Need-mul-at Inv-loop μ-loop
 mul-at c = omega (arith, held c)
@@ -112,7 +110,6 @@ put-blocks-spec =
     (tie.spec
     Inv-loop
     μ-loop
-    size-requires
     slice-aggregate-list
     list-requires
     loop-holds

@@ -15,7 +15,7 @@ abbrev μ-loop : tie.MeasureT-loop
 μ-loop out₀ at₀ passed₀ rest₀ out at passed rest = rest
 
 returns : tie.Need-returns Inv-loop μ-loop
-returns c = record { written = λ room. absurd (c .if1 .taken room); kept = λ none. refl }
+returns c = record { written = λ room. absurd (c .if1 .taken room); counted = λ room. absurd (c .if1 .taken room); kept = λ none. (refl, refl) }
 
 loop-holds : tie.Need-loop-holds Inv-loop μ-loop
 loop-holds c = walked-none (c .before .args .self .0) _ (omega arith) (c .if1 .left)
