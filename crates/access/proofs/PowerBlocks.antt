@@ -18,7 +18,7 @@ use Rattle.field.proofs.FiniteSum.{sum-zero, sum-ext}
 use Rattle.interpolation.specs.Polynomial.{evaluate}
 use Rattle.interpolation.proofs.Evaluate.{evaluate-join}
 use Rattle.interpolation.proofs.Rows.{cell-take, cell-drop}
-use Rattle.params.specs.Nodes.{has, count, outside}
+use Rattle.params.specs.Nodes.{has, count, outside, listed, inOrder}
 use Rattle.params.specs.Params.{slackParts, working}
 use Rattle.gates.specs.Valid.{Valid}
 use Rattle.params.specs.declared.Params.{Params}
@@ -28,7 +28,7 @@ use Rattle.code.specs.Code.{point, block}
 use Rattle.code.specs.Calls.{Encoded}
 use Rattle.kernels.specs.Blocks.{Fits, Added}
 use Rattle.kernels.proofs.Arriving.{ordered-product}
-use Rattle.coefficients.specs.Coefficients.{listed, inOrder, powerRows}
+use Rattle.coefficients.specs.Coefficients.{powerRows}
 use Rattle.coefficients.proofs.Laws.{areas-fit, buffer-front, cell-front, Lists, list-at, length-powerRows, powerRows-at, product-fits, first-length, first-at, first-inside, product-first}
 
 -- ---- the nodes 1..n

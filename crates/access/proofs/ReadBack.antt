@@ -13,19 +13,20 @@ use Rattle.field.specs.FiniteSum.{sum}
 use Rattle.field.proofs.FiniteSum.{sum-ext}
 use Rattle.interpolation.specs.Polynomial.{evaluate}
 use Rattle.interpolation.proofs.Rows.{cell-byte}
-use Rattle.params.specs.Nodes.{has, size}
+use Rattle.params.specs.Nodes.{has, size, inOrder, placesOf}
 use Rattle.params.specs.Params.{slackParts, working}
+use Rattle.params.proofs.Placing.{place-of}
 use Rattle.gates.specs.Valid.{DecodeAccepted}
 use Rattle.params.specs.declared.Params.{Params}
-use Rattle.params.proofs.Sets.{within-has}
+use Rattle.params.proofs.Sets.{within-has, size-most}
 use Rattle.gates.proofs.Valid.{working-is}
 use Rattle.code.specs.Code.{point, block, Gives}
 use Rattle.code.specs.Calls.{Decoded}
 use Rattle.code.proofs.Pairs.{from-reads, pair-exists}
 use Rattle.kernels.specs.Blocks.{Fits, Added}
 use Rattle.kernels.proofs.Arriving.{ordered-product}
-use Rattle.coefficients.specs.Coefficients.{inOrder, placesOf, pointAt, Reads}
-use Rattle.coefficients.proofs.Laws.{cell-front, size-most, place-of, product-fits, first-length, first-at, first-inside, placed-length, placed-inside, product-placed}
+use Rattle.coefficients.specs.Coefficients.{pointAt, Reads}
+use Rattle.coefficients.proofs.Laws.{cell-front, product-fits, first-length, first-at, first-inside, placed-length, placed-inside, product-placed}
 
 module _ (a : Params) (from out : ℕ) (word : from < 2 ^ 32) (codeword : List ℕ) (ok : DecodeAccepted a (length codeword) out from) where
   module _ (x v : List ℕ) (gives : Gives a x v (has from) codeword) where

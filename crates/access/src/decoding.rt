@@ -1,12 +1,12 @@
 // Document 01's reading.
 use blocks::clear;
-use coefficients::in_order;
-use coefficients::places_of;
 use coefficients::reading_rows;
 use gates::decode_gate;
 use kernels::add_product;
 use params::NodeSet;
 use params::Params;
+use params::in_order;
+use params::places_of;
 ghost use Prim.Native.Nat.{_*_, _≤_};
 ghost use lib.ListN.{length};
 ghost use Rattle.params.specs.Nodes.{size};

@@ -1,12 +1,12 @@
 // Document 01's set-up. Message and slack are laid side by side, so that one product by the powers of the nodes' points gives all blocks.
 use blocks::clear;
 use blocks::copy_block;
-use coefficients::in_order;
 use coefficients::power_rows;
 use gates::encode_gate;
 use kernels::add_product;
 use params::NodeSet;
 use params::Params;
+use params::in_order;
 ghost use mathlib.Core.Path.{_≡_};
 ghost use Prim.Native.Nat.{_+_, _*_, _≤_};
 ghost use lib.ListN.{length, take, drop};

@@ -14,13 +14,14 @@ use Rattle.field.proofs.Multiplication.{mul-comm, mul-add-left, mul-add-right}
 use Rattle.field.proofs.FiniteSum.{sum-ext, sum-add}
 use Rattle.interpolation.specs.Polynomial.{evaluate, Points}
 use Rattle.interpolation.proofs.Lagrange.{associate}
-use Rattle.params.specs.Nodes.{size}
+use Rattle.params.specs.Nodes.{size, listed, inOrder}
+use Rattle.params.proofs.Sets.{size-most, length-listed}
 use Rattle.code.specs.Code.{point}
 use Rattle.kernels.specs.Blocks.{Fits, Added}
 use Rattle.kernels.proofs.Arriving.{ordered-added}
-use Rattle.coefficients.specs.Coefficients.{listed, pointAt, inOrder, powerRows, Roomy, ExtendsPost}
+use Rattle.coefficients.specs.Coefficients.{pointAt, powerRows, Roomy, ExtendsPost}
 use Rattle.coefficients.specs.Working.{pointsOf, remaining, Carries, Shared, Sharable, Completed, Completable}
-use Rattle.coefficients.proofs.Laws.{buffer-front, size-most, length-listed, length-powerRows, powerRows-at, product-fits, first-length, first-at, first-inside, product-first}
+use Rattle.coefficients.proofs.Laws.{buffer-front, length-powerRows, powerRows-at, product-fits, first-length, first-at, first-inside, product-first}
 use Rattle.coefficients.proofs.Values.{listed-points}
 
 -- ---- the share of the leading coefficients

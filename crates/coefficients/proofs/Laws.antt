@@ -1,29 +1,29 @@
--- A set's list of nodes, places and rows of powers, by their lengths and entries; and products over blocks at such places. Assumes nothing.
-use mathlib.Core.Path.{_≡_, refl, sym, ap, ap₂, _∙_, subst⁻¹}
+-- A set's list of nodes and rows of powers, by their lengths and entries; and products over blocks at the places of nodes. Assumes nothing.
+use mathlib.Core.Path.{_≡_, sym, ap, ap₂, _∙_, subst⁻¹}
 use mathlib.Core.Bool.{true}
 use mathlib.Core.List.{List, _++_}
 use mathlib.Core.Logic.{⊎-elim}
 use Prim.Native.Nat.{ℕ, suc, _+_, _-_, _*_, _^_, _≤_, _<_}
 use native.Mathlib.Nat.{mul-le-mul}
 use native.Mathlib.Omega.{arith}
-use lib.Count.{ones-le}
-use lib.ListN.{length, getD, take, drop, replicate, length-append, length-drop, length-replicate, take-append-drop, List·getD-append, List·getD-eq-default}
-use lib.Seq.{take-at, getD-take, getD-drop, getD-append-add, length-take-le, ext-getD}
+use lib.ListN.{length, getD, take, replicate, length-append, length-replicate, List·getD-append, List·getD-eq-default}
+use lib.Seq.{take-at, getD-take, getD-append-add, length-take-le}
 use Rattle.base.specs.Seq.{cell}
 use Rattle.base.proofs.Cases.{lt-or}
-use Rattle.base.proofs.Seq.{length-tabulate, getD-tabulate, length-blocks, cell-blocks, zeros-at}
+use Rattle.base.proofs.Seq.{length-blocks, cell-blocks, zeros-at}
 use Rattle.base.proofs.Parts.{row-ends}
 use Rattle.field.specs.Field.{mul, pow}
 use Rattle.field.specs.FiniteSum.{sum}
 use Rattle.field.proofs.FiniteSum.{sum-ext}
 use Rattle.interpolation.proofs.Rows.{cell-take}
-use Rattle.params.specs.Nodes.{has, size}
-use Rattle.params.proofs.Sets.{length-nodes, size-count, entry}
+use Rattle.params.specs.Nodes.{has, size, listed, inOrder, placesOf}
+use Rattle.params.proofs.Sets.{size-most, length-listed}
+use Rattle.params.proofs.Placing.{length-in-order, in-order-at, length-places, place-of}
 use Rattle.code.specs.Code.{point}
 use Rattle.kernels.specs.Blocks.{product, Inside, Fits}
 use Rattle.kernels.proofs.Laws.{block-inside}
 use Rattle.kernels.proofs.Arriving.{ordered-inside}
-use Rattle.coefficients.specs.Coefficients.{listed, inOrder, placesOf, Placing, powerRows}
+use Rattle.coefficients.specs.Coefficients.{powerRows}
 
 -- two sides of at most 32 give an area that has room in 1,024 bytes
 pub areas-fit : (m n : ℕ) → m ≤ 32 → n ≤ 32 → m * n ≤ 1024
@@ -52,13 +52,6 @@ cell-front m n rows rest e i j hi hj =
     sym (cell-take m n (rows ++ rest) i j hi hj) ∙ ap (λ (l : List ℕ). cell m l i j) (buffer-front (n * m) rows rest e)
 
 -- ---- a set's nodes
-
-pub size-most : (s : ℕ) → s < 2 ^ 32 → size s ≤ 32
-unfolding size
-size-most s h = ones-le 32 s h
-
-pub length-listed : (s : ℕ) → s < 2 ^ 32 → length (listed s) ≡ size s
-length-listed s h = length-nodes (has s) 32 ∙ sym (size-count 32 s h)
 
 -- what NodeSet::list makes of 32 zeros: the set's nodes first, then zeros
 abbrev pub Lists : ℕ → List ℕ → Type 0
@@ -92,40 +85,6 @@ module _ (s : ℕ) (h : s < 2 ^ 32) (l : List ℕ) (e : Lists s l) where
       ∙ getD-append-add (listed s) (replicate (32 - size s) 0) (j - length (listed s)) 0 ∙ zeros-at (32 - size s) (j - length (listed s))
       ∙ sym (List·getD-eq-default (listed s) 0 le))
       (lt-or j (length (listed s)))
-
--- ---- places
-
-pub length-in-order : length inOrder ≡ 32
-length-in-order = length-tabulate 32 (λ j. j)
-
-in-order-at : (j : ℕ) → j < 32 → getD inOrder j 0 ≡ j
-in-order-at j h = getD-tabulate 32 (λ j. j) j h
-
-pub length-places : (s : ℕ) → length (placesOf s) ≡ 32
-length-places s = length-tabulate 32 (λ j. getD (listed s) j 0 - 1)
-
-pub places-at : (s j : ℕ) → j < 32 → getD (placesOf s) j 0 ≡ getD (listed s) j 0 - 1
-places-at s j h = getD-tabulate 32 (λ j. getD (listed s) j 0 - 1) j h
-
--- entry k is the place of a node of the set
-pub place-of : (s k : ℕ) → s < 2 ^ 32 → k < size s
-    → (j : ℕ) × (has s (suc j) ≡ true) × (getD (listed s) k 0 ≡ suc j) × (getD (placesOf s) k 0 ≡ j)
-place-of s k h hk =
-    let g = entry (has s) 32 k (omega (arith, length-listed s h, length-nodes (has s) 32)) in
-    (g .0, g .2, g .3, places-at s k (omega (arith, size-most s h)) ∙ ap (λ (i : ℕ). i - 1) (g .3) ∙ omega arith)
-
--- what places_of leaves of 32 zeros
-pub placing-zeros : (s : ℕ) (new : List ℕ) → s < 2 ^ 32 → Placing s (replicate 32 0) new → new ≡ placesOf s
-placing-zeros s new h placed =
-    placed .written refl ∙ ap (λ (l : List ℕ). take (size s) (placesOf s) ++ l) (sym behind) ∙ take-append-drop (size s) (placesOf s)
-  where
-    behind : drop (size s) (placesOf s) ≡ drop (size s) (replicate 32 0)
-    behind =
-        ext-getD 0 _ _ (simp (length-drop, length-places))
-        (λ i hi.
-        getD-drop (size s) (placesOf s) i 0 ∙ places-at s (size s + i) (omega (arith, length-drop (size s) (placesOf s), length-places s))
-        ∙ ap (λ (k : ℕ). k - 1) (List·getD-eq-default (listed s) 0 (omega (arith, length-listed s h)))
-        ∙ sym (getD-drop (size s) (replicate 32 0) i 0 ∙ zeros-at 32 (size s + i)))
 
 -- ---- rows of powers
 

@@ -1,25 +1,23 @@
--- Rows of powers and places as the code writes them, one after the other. Assumes nothing.
+-- Rows of powers as the code writes them, one after the other. Assumes nothing.
 use mathlib.Core.Path.{_≡_, refl, sym, ap, ap₂, _∙_}
 use mathlib.Core.Bool.{Bool, true, false, not}
-use mathlib.Core.List.{List, _++_}
-use Prim.Native.Nat.{ℕ, zero, suc, _+_, _-_, _*_, _%_, _^_, _≤_, _<_}
+use mathlib.Core.List.{List}
+use Prim.Native.Nat.{ℕ, zero, suc, _+_, _*_, _%_, _≤_, _<_}
 use native.Mathlib.Nat.{zero-lt-suc, add-suc, mod-lt, mul-le-mul, mul-comm as times-comm}
 use native.Mathlib.Omega.{arith}
 use borrow.Author.Tests.{eqb-true, eqb-false, not-true, not-false}
 use lib.Dec.{eqb}
-use lib.ListN.{length, getD, take, drop, replicate, length-drop, take-append-drop, List·getD-append}
-use lib.Seq.{length-take-le, getD-take, getD-drop, drop-at, ext-getD}
+use lib.ListN.{length, getD, replicate}
+use lib.Seq.{ext-getD}
 use Rattle.base.specs.Seq.{tabulate, blocks}
 use Rattle.base.proofs.Seq.{length-tabulate, getD-tabulate, tabulate-ext, tabulate-zeros, length-blocks}
-use Rattle.base.specs.Parts.{Filled, Blocked}
+use Rattle.base.specs.Parts.{Blocked}
 use Rattle.base.proofs.Parts.{blocked-all}
 use Rattle.field.specs.Field.{mul, pow}
 use Rattle.field.proofs.Multiplication.{mul-zero-left}
 use Rattle.field.proofs.Exponents.{pow-suc, pow-add, pow-pow, pow-mod}
-use Rattle.params.specs.Nodes.{size, Listing}
-use Rattle.coefficients.specs.Coefficients.{listed, placesOf, Placing, powerRows, PowersPost}
+use Rattle.coefficients.specs.Coefficients.{powerRows, PowersPost}
 use Rattle.coefficients.specs.Working.{powersFrom, stepsFrom}
-use Rattle.coefficients.proofs.Laws.{size-most, length-listed, length-places, places-at, place-of}
 
 -- a list that was told by its entries
 pub tabulated : (n : ℕ) (f : ℕ → ℕ) (l : List ℕ) → l ≡ tabulate n f → (length l ≡ n) × ((j : ℕ) → j < n → getD l j 0 ≡ f j)
@@ -94,41 +92,3 @@ has-room m nodes out fits r left = eqb-true (length out) (length nodes * m) (sym
 
 pub powers-made : (e m : ℕ) (nodes old new : List ℕ) → length old ≡ length nodes * m → new ≡ powerRows e m nodes → PowersPost e m nodes old new
 powers-made e m nodes old new room made = record { written = λ same. made; kept = λ none. absurd (none room) }
-
--- ---- places
-
--- what NodeSet::list leaves of 32 places
-module _ (s : ℕ) (h : s < 2 ^ 32) (old l : List ℕ) (room : length old ≡ 32) {count : ℕ} (lists : Listing s old count l) where
-  node-at : (i : ℕ) → i < size s → getD l i 0 ≡ getD (listed s) i 0
-  node-at i hi =
-      ap (λ (k : List ℕ). getD k i 0) (lists .written room)
-      ∙ List·getD-append (listed s) (drop (size s) old) 0 i (omega (arith, length-listed s h))
-
-  pub node-positive : (i : ℕ) → i < size s → 1 ≤ getD l i 0
-  node-positive i hi = omega (arith, node-at i hi, place-of s i h hi .2)
-
-  -- each node's entry has become one less
-  pub places-told : (t : ℕ) (new : List ℕ) → t ≡ size s → length l ≡ 32 → Filled (λ i. getD l i 0 - 1) t l new → Placing s old new
-  places-told t new all whole filled =
-      record {
-        written = λ same. sym (take-append-drop (size s) new) ∙ ap₂ _++_ front behind;
-        kept = λ none. absurd (none room);
-      }
-    where
-      front-length : (k : List ℕ) → length k ≡ 32 → length (take (size s) k) ≡ size s
-      front-length k e = length-take-le (size s) k (omega (arith, size-most s h))
-
-      front : take (size s) new ≡ take (size s) (placesOf s)
-      front =
-          let e = front-length new (filled .same ∙ whole) in
-          ext-getD 0 _ _ (e ∙ sym (front-length (placesOf s) (length-places s)))
-          (λ i hi.
-          let lt : i < size s = omega arith in
-          getD-take (size s) new i 0 lt ∙ filled .done i (omega arith) ∙ ap (λ (k : ℕ). k - 1) (node-at i lt)
-          ∙ sym (getD-take (size s) (placesOf s) i 0 lt ∙ places-at s i (omega (arith, size-most s h))))
-
-      behind : drop (size s) new ≡ drop (size s) old
-      behind =
-          ext-getD 0 (drop (size s) new) (drop (size s) l) (simp length-drop (ap (λ (k : ℕ). k - size s) (filled .same)))
-          (λ i hi. getD-drop (size s) new i 0 ∙ filled .rest (size s + i) (omega arith) ∙ sym (getD-drop (size s) l i 0))
-          ∙ ap (drop (size s)) (lists .written room) ∙ drop-at (listed s) (drop (size s) old) (size s) (length-listed s h)

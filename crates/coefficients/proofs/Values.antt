@@ -18,12 +18,11 @@ use Rattle.interpolation.proofs.Evaluate.{evaluate-join}
 use Rattle.interpolation.proofs.Lagrange.{coefficients}
 use Rattle.interpolation.proofs.PointLists.{points-of}
 use Rattle.interpolation.proofs.Rows.{join, join-left, join-right, join-byte}
-use Rattle.params.specs.Nodes.{has, size, count}
-use Rattle.params.proofs.Sets.{length-nodes, entry as node-entry, distinct}
+use Rattle.params.specs.Nodes.{has, size, count, listed}
+use Rattle.params.proofs.Sets.{length-nodes, entry as node-entry, distinct, size-most, length-listed}
 use Rattle.code.specs.Code.{point}
-use Rattle.coefficients.specs.Coefficients.{listed, pointAt, Readable, Reads, ReadsPost}
+use Rattle.coefficients.specs.Coefficients.{pointAt, Readable, Reads, ReadsPost}
 use Rattle.coefficients.specs.Working.{pointsOf, basis, BasisRows, Columned}
-use Rattle.coefficients.proofs.Laws.{size-most, length-listed}
 
 -- ---- the points of a list of nodes
 

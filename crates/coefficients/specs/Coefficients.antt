@@ -1,35 +1,18 @@
 -- Small matrices of coefficients, said by what they take to what. A set of nodes stands for the list of its nodes in rising order. Assumes nothing.
 use mathlib.Core.Path.{_≡_}
-use mathlib.Core.List.{List, _++_}
-use Prim.Native.Nat.{ℕ, suc, _+_, _-_, _*_, _≤_, _<_}
-use lib.ListN.{length, getD, take, drop}
-use Rattle.base.specs.Seq.{tabulate, cell, blocks}
+use mathlib.Core.List.{List}
+use Prim.Native.Nat.{ℕ, suc, _+_, _*_, _≤_, _<_}
+use lib.ListN.{length, getD}
+use Rattle.base.specs.Seq.{cell, blocks}
 use Rattle.field.specs.Field.{IsByte, add, mul, pow}
 use Rattle.field.specs.FiniteSum.{sum}
 use Rattle.interpolation.specs.Polynomial.{evaluate}
-use Rattle.params.specs.Nodes.{has, size, nodes}
+use Rattle.params.specs.Nodes.{size, listed}
 use Rattle.code.specs.Code.{point}
-
--- the set's nodes in rising order
-abbrev pub listed : ℕ → List ℕ
-listed s = nodes (has s) 32
 
 -- the point of the set's node i, counted from 0 in rising order
 abbrev pub pointAt : ℕ → ℕ → ℕ
 pointAt s i = point (getD (listed s) i 0)
-
--- the block numbers 0, 1, .., 31
-abbrev pub inOrder : List ℕ
-inOrder = tabulate 32 (λ j. j)
-
--- the block number of each of the set's nodes, one less than the node's number; 0 behind the last
-abbrev pub placesOf : ℕ → List ℕ
-placesOf s = tabulate 32 (λ j. getD (listed s) j 0 - 1)
-
--- the block numbers of the set's nodes stand at the front of new, and behind them what old had; where old has not 32 places, new is old
-pub record Placing (s : ℕ) (old new : List ℕ) : Type 0 where
-  pub written : length old ≡ 32 → new ≡ take (size s) (placesOf s) ++ drop (size s) old
-  pub kept : (length old ≡ 32 → ⊥) → new ≡ old
 
 -- ---- powers of points
 

@@ -1,5 +1,4 @@
 // From leading coefficients and values at some nodes to values at others.
-use crate::in_order;
 use crate::logarithms::exponent;
 use crate::logarithms::opposite;
 use crate::logarithms::reduced;
@@ -8,6 +7,7 @@ use crate::raising::fill_rows;
 use base::wide;
 use kernels::add_product;
 use params::Node;
+use params::in_order;
 ghost use mathlib.Core.Path.{_≡_};
 ghost use Prim.Native.Nat.{_*_, _≤_, _<_};
 ghost use lib.ListN.{length};

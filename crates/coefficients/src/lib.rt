@@ -14,70 +14,13 @@ use params::Node;
 use params::NodeSet;
 ghost use mathlib.Core.Path.{_≡_};
 ghost use Rattle.code.specs.Code.{point};
-ghost use Rattle.coefficients.specs.Coefficients.{inOrder, Placing, PowersPost, ReadsPost, ExtendsPost};
+ghost use Rattle.coefficients.specs.Coefficients.{PowersPost, ReadsPost, ExtendsPost};
 
 // The point rule: the only place where a node's number becomes a field element.
 pub fn point(node: Node) -> Elem
     ensures { λ r. ⌜ r .0 ≡ point (node .0) ⌝ }
 {
     Elem(node.0)
-}
-
-// The block numbers 0, 1, 2, .., 31.
-pub fn in_order() -> [u8; 32]
-    ensures { λ r. ⌜ r ≡ inOrder ⌝ }
-{
-    [
-        0,
-        1,
-        2,
-        3,
-        4,
-        5,
-        6,
-        7,
-        8,
-        9,
-        10,
-        11,
-        12,
-        13,
-        14,
-        15,
-        16,
-        17,
-        18,
-        19,
-        20,
-        21,
-        22,
-        23,
-        24,
-        25,
-        26,
-        27,
-        28,
-        29,
-        30,
-        31,
-    ]
-}
-
-// The block numbers of the set's nodes, in rising order of the nodes, go to the front of out, which has 32 places; what stands behind them is as it was. Where
-// out has not 32 places, nothing is written.
-pub fn places_of(set: NodeSet, out: &mut [u8])
-    ensures { λ _. ⌜ Placing (set .0) (now (out .entry)) (now (out .exit)) ⌝ }
-{
-    if out.len() != 32 {
-        return;
-    }
-    set.list(out);
-    let count = set.size();
-    let mut j = 0;
-    while j < count {
-        out[j] = out[j] - 1;
-        j += 1;
-    }
 }
 
 // out := a row for each node, the powers e + 1, .., e + m of its point. Where out has no room for just these, nothing is written.

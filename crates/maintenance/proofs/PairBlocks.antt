@@ -11,14 +11,14 @@ use Rattle.base.specs.Seq.{cell}
 use Rattle.interpolation.specs.Polynomial.{evaluate}
 use Rattle.interpolation.proofs.Evaluate.{evaluate-join}
 use Rattle.interpolation.proofs.Rows.{join, join-left, join-right, join-byte, cell-byte}
-use Rattle.params.specs.Nodes.{has, size, count}
+use Rattle.params.specs.Nodes.{has, size, count, listed, placesOf}
 use Rattle.params.specs.Params.{slackParts, working}
 use Rattle.params.specs.declared.Params.{Params}
 use Rattle.params.proofs.Sets.{size-count, has-le, rank-lt, node-at-rank}
+use Rattle.params.proofs.Placing.{place-of}
 use Rattle.code.specs.Code.{point, block}
 use Rattle.kernels.proofs.Laws.{block-inside}
-use Rattle.coefficients.specs.Coefficients.{listed, placesOf}
-use Rattle.coefficients.proofs.Laws.{place-of, placed-length, placed-at}
+use Rattle.coefficients.proofs.Laws.{placed-length, placed-at}
 use Rattle.maintenance.specs.Cores.{Extendable, Extended, Recomputable, Recomputed}
 
 -- the pair's coefficients at byte place p, message before slack

@@ -14,13 +14,13 @@ use Rattle.base.proofs.Seq.{cell-lt}
 use Rattle.field.specs.Field.{Bytes}
 use Rattle.interpolation.specs.Polynomial.{evaluate}
 use Rattle.interpolation.proofs.Rows.{cell-byte}
-use Rattle.params.specs.Nodes.{has, size, count}
+use Rattle.params.specs.Nodes.{has, size, count, inOrder}
 use Rattle.params.specs.Params.{slackParts, reshaped}
 use Rattle.gates.specs.Valid.{ReconfigureAccepted}
 use Rattle.params.specs.declared.Params.{Params}
 use Rattle.params.specs.declared.Shape.{Shape}
 use Rattle.base.proofs.Questions.{both-known}
-use Rattle.params.proofs.Sets.{size-count, has-le, node-at-rank, entry, range-yes, range-no, outside-has, outside-size}
+use Rattle.params.proofs.Sets.{size-count, has-le, node-at-rank, entry, range-yes, range-no, outside-has, outside-size, size-most}
 use Rattle.code.specs.Code.{point, block, Gives}
 use Rattle.code.specs.Calls.{Reconfigured}
 use Rattle.code.proofs.Additivity.{block-byte}
@@ -28,8 +28,7 @@ use Rattle.code.proofs.Pairs.{Slack, slack-exists, written-leaves, pair-exists,
 use Rattle.blocks.specs.Bytes.{over}
 use Rattle.blocks.proofs.Laws.{over-length, over-at}
 use Rattle.kernels.proofs.Laws.{block-inside}
-use Rattle.coefficients.specs.Coefficients.{inOrder}
-use Rattle.coefficients.proofs.Laws.{size-most, first-length, first-at}
+use Rattle.coefficients.proofs.Laws.{first-length, first-at}
 use Rattle.maintenance.specs.Cores.{Extendable, Extended, Recomputable, Recomputed, Listing, Put}
 use Rattle.maintenance.proofs.PairBlocks.{rank-inside}
 use Rattle.maintenance.proofs.Served.{Outside, outside-le, from-asks, listing}

@@ -12,10 +12,10 @@ use Rattle.field.specs.Field.{Bytes, add, mul}
 use Rattle.field.specs.FiniteSum.{sum}
 use Rattle.field.proofs.FiniteSum.{sum-ext}
 use Rattle.interpolation.proofs.Rows.{cell-byte}
-use Rattle.params.specs.Nodes.{size}
+use Rattle.params.specs.Nodes.{size, inOrder}
 use Rattle.kernels.specs.Blocks.{product, Inside, Fits, Added}
 use Rattle.kernels.proofs.Arriving.{ordered-added, ordered-product}
-use Rattle.coefficients.specs.Coefficients.{inOrder, Extends, ExtendsPost}
+use Rattle.coefficients.specs.Coefficients.{Extends, ExtendsPost}
 use Rattle.coefficients.proofs.Laws.{buffer-front, product-fits, first-length, first-at, first-inside, product-first}
 use Rattle.maintenance.specs.Cores.{Extendable, Extended}
 

@@ -1,11 +1,11 @@
 // Blocks from parts and blocks.
 use blocks::clear;
 use coefficients::completion_rows;
-use coefficients::in_order;
-use coefficients::places_of;
 use kernels::add_product;
 use params::NodeSet;
 use params::Params;
+use params::in_order;
+use params::places_of;
 ghost use Prim.Native.Nat.{_+_, _*_, _≤_};
 ghost use lib.ListN.{length};
 ghost use Rattle.params.specs.Nodes.{size};

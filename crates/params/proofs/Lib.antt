@@ -1,2 +1,3 @@
 pub mod Sets
 mod Words
+pub mod Placing

@@ -10,14 +10,14 @@ use native.Mathlib.Omega.{arith}
 use native.Mathlib.Decide.{le-ind}
 use lib.Arith.{lt-one}
 use lib.Bits.{bitAnd, and-step, and-shr, and-le-l}
-use lib.Count.{ones, ones-cat}
+use lib.Count.{ones, ones-cat, ones-le}
 use lib.Dec.{leb, eqb}
 use lib.ListN.{length, getD, drop, replicate, length-append, List·getD-append}
 use lib.Pow.{pow-pos, pow-mono, shr-lt, mod-pow-add}
 use lib.Seq.{getD-at}
 use borrow.Author.Tests.{ltb-true, eqb-true, eqb-false, lt-ltb, leb-true, le-leb, lt-leb, eq-eqb}
 use Rattle.base.proofs.Cases.{lt-or}
-use Rattle.params.specs.Nodes.{has, size, within, disjoint, one, count, only, nodes, outside, Listing}
+use Rattle.params.specs.Nodes.{has, size, within, disjoint, one, count, only, nodes, outside, listed, Listing}
 
 -- ---- one node
 
@@ -170,6 +170,13 @@ pub size-count : (k s : ℕ) → s < 2 ^ k → size s ≡ count (has s) k
 unfolding size
 size-count k s h = ap ones (sym (mod-eq-of-lt h)) ∙ ones-low s k
 
+pub size-most : (s : ℕ) → s < 2 ^ 32 → size s ≤ 32
+unfolding size
+size-most s h = ones-le 32 s h
+
+pub length-listed : (s : ℕ) → s < 2 ^ 32 → length (listed s) ≡ size s
+length-listed s h = length-nodes (has s) 32 ∙ sym (size-count 32 s h)
+
 -- no node above k is in a set below 2^k
 pub has-past : (k s j : ℕ) → s < 2 ^ k → k ≤ j → has s (suc j) ≡ false
 unfolding has
@@ -253,8 +260,8 @@ disjoint-has l r h = (
     apart true false f = refl
 
 -- what NodeSet::list makes of 32 zeros
-pub listing-zeros : {answer : ℕ} (s : ℕ) (new : List ℕ) → Listing s (replicate 32 0) answer new → new ≡ nodes (has s) 32 ++ replicate (32 - size s) 0
-listing-zeros s new l = l .written refl ∙ ap (λ (r : List ℕ). nodes (has s) 32 ++ r) (drop-replicate 32 (size s))
+pub listing-zeros : {answer : ℕ} (s : ℕ) (new : List ℕ) → Listing s (replicate 32 0) answer new → new ≡ listed s ++ replicate (32 - size s) 0
+listing-zeros s new l = l .written refl ∙ ap (λ (r : List ℕ). listed s ++ r) (drop-replicate 32 (size s))
   where
     drop-replicate : (n k : ℕ) → drop k (replicate {A = ℕ} n 0) ≡ replicate (n - k) 0
     drop-replicate n zero = simp sub-zero

@@ -2,11 +2,12 @@
 use mathlib.Core.Path.{_≡_}
 use mathlib.Core.Bool.{Bool, true, false, not, _&&_}
 use mathlib.Core.List.{List, [], _∷_, _++_}
-use Prim.Native.Nat.{ℕ, zero, suc, _+_, _/_, _%_, _^_}
+use Prim.Native.Nat.{ℕ, zero, suc, _+_, _-_, _/_, _%_, _^_}
 use lib.Dec.{leb, ltb, eqb}
 use lib.Bits.{bitAnd}
 use lib.Count.{ones}
-use lib.ListN.{length, drop}
+use lib.ListN.{length, getD, take, drop}
+use Rattle.base.specs.Seq.{tabulate}
 
 -- "A choice of traps is a 32-bit number; trap i is worth 2^(i−1), so no trap can be named twice." Node suc j is in the set when bit j is 1.
 unfoldable pub has : ℕ → ℕ → Bool
@@ -44,13 +45,32 @@ unfoldable pub nodes : (ℕ → Bool) → ℕ → List ℕ
 nodes f zero = []
 nodes f (suc n) = nodes f n ++ only (f (suc n)) (suc n)
 
+-- The set's nodes in rising order.
+abbrev pub listed : ℕ → List ℕ
+listed s = nodes (has s) 32
+
 -- The set's nodes in rising order stand at the front of new, and behind them what old had; the answer is their number. Where old has not 32 places, new is old,
 -- and the answer is 0.
 pub record Listing (s : ℕ) (old : List ℕ) (answer : ℕ) (new : List ℕ) : Type 0 where
-  pub written : length old ≡ 32 → new ≡ nodes (has s) 32 ++ drop (size s) old
+  pub written : length old ≡ 32 → new ≡ listed s ++ drop (size s) old
   pub counted : length old ≡ 32 → answer ≡ size s
   pub kept : (length old ≡ 32 → ⊥) → (new ≡ old) × (answer ≡ 0)
 
 -- The nodes of 1..n outside the set, as a test.
 abbrev pub outside : ℕ → ℕ → ℕ → Bool
 outside n s i = (leb 1 i && leb i n) && not (has s i)
+
+-- ---- places: node suc j's block is block j
+
+-- The block numbers 0, 1, .., 31.
+abbrev pub inOrder : List ℕ
+inOrder = tabulate 32 (λ j. j)
+
+-- The block number of each of the set's nodes, one less than the node's number; 0 behind the last.
+abbrev pub placesOf : ℕ → List ℕ
+placesOf s = tabulate 32 (λ j. getD (listed s) j 0 - 1)
+
+-- The block numbers of the set's nodes stand at the front of new, and behind them what old had; where old has not 32 places, new is old.
+pub record Placing (s : ℕ) (old new : List ℕ) : Type 0 where
+  pub written : length old ≡ 32 → new ≡ take (size s) (placesOf s) ++ drop (size s) old
+  pub kept : (length old ≡ 32 → ⊥) → new ≡ old

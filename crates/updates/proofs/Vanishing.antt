@@ -17,7 +17,7 @@ use Rattle.field.proofs.Multiplication.{mul-zero-right}
 use Rattle.field.proofs.FiniteSum.{sum-ext, sum-zeros}
 use Rattle.interpolation.specs.Polynomial.{evaluate}
 use Rattle.interpolation.proofs.Rows.{cell-byte}
-use Rattle.params.specs.Nodes.{has, size, outside}
+use Rattle.params.specs.Nodes.{has, size, outside, listed, inOrder}
 use Rattle.params.specs.Params.{slackParts}
 use Rattle.params.specs.declared.Params.{Params}
 use Rattle.base.proofs.Questions.{both-known, both-le}
@@ -27,7 +27,7 @@ use Rattle.code.specs.Calls.{Vanishes}
 use Rattle.code.proofs.Pairs.{spread-exists}
 use Rattle.kernels.specs.Blocks.{Fits, Added}
 use Rattle.kernels.proofs.Arriving.{arriving-ext}
-use Rattle.coefficients.specs.Coefficients.{listed, inOrder, pointAt, Extends, Roomy}
+use Rattle.coefficients.specs.Coefficients.{pointAt, Extends, Roomy}
 use Rattle.coefficients.proofs.Laws.{product-fits, first-length, first-inside, product-first, cell-front}
 use Rattle.updates.specs.Spreading.{Spreadable, Spread}
 

@@ -6,13 +6,12 @@ use Prim.Native.Nat.{ℕ, suc, _*_, _≤_, _<_}
 use lib.ListN.{length, getD}
 use Rattle.base.specs.Seq.{cell}
 use Rattle.field.specs.Field.{add}
-use Rattle.params.specs.Nodes.{size, within}
+use Rattle.params.specs.Nodes.{size, within, listed}
 use Rattle.params.specs.declared.Params.{Params}
 use Rattle.gates.specs.Valid.{Valid}
 use Rattle.code.specs.Code.{block}
 use Rattle.code.specs.Calls.{Vanishes}
 use Rattle.kernels.specs.Blocks.{arriving}
-use Rattle.coefficients.specs.Coefficients.{listed}
 
 -- an accepted change, and a block for each node of W
 pub record Spreadable (a : Params) (change to : ℕ) (targets : List ℕ) (out : ℕ) : Type 0 where

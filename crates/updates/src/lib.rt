@@ -2,13 +2,13 @@
 // gate, and then a private core: a small matrix of coefficients is found once, and one product adds what the change makes to the blocks that it goes to.
 use blocks::clear;
 use coefficients::completion_rows;
-use coefficients::in_order;
-use coefficients::places_of;
 use gates::delta_gate;
 use gates::update_gate;
 use kernels::add_product;
 use params::NodeSet;
 use params::Params;
+use params::in_order;
+use params::places_of;
 ghost use Prim.Native.Nat.{_*_, _≤_};
 ghost use lib.ListN.{length};
 ghost use Rattle.gates.specs.Valid.{DeltaAccepted, UpdateAccepted};

@@ -5,8 +5,8 @@ use native.Mathlib.Omega.{arith}
 use borrow.Author.Needs.{needs}
 use denote.Ref.{now}
 use lib.ListN.{take}
-use Rattle.params.proofs.Sets.{listing-zeros}
-use Rattle.coefficients.proofs.Laws.{areas-fit, size-most, Lists, front-fits, front-count, front-is}
+use Rattle.params.proofs.Sets.{listing-zeros, size-most}
+use Rattle.coefficients.proofs.Laws.{areas-fit, Lists, front-fits, front-count, front-is}
 use Rattle.coefficients.proofs.Completion.{Lent, completable, extends-made, no-leading-room, no-gains-room}
 use Rattle.coefficients.proofs.completion_rows.Statement.{statement}
 use Rattle.coefficients.proofs.completion_rows.Tie as tie

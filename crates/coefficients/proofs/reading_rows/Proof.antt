@@ -5,9 +5,9 @@ use native.Mathlib.Omega.{arith}
 use borrow.Author.Needs.{needs}
 use denote.Ref.{now}
 use lib.ListN.{take}
-use Rattle.params.proofs.Sets.{listing-zeros}
-use Rattle.coefficients.specs.Coefficients.{listed}
-use Rattle.coefficients.proofs.Laws.{areas-fit, size-most, Lists, front-fits, front-count, front-is}
+use Rattle.params.specs.Nodes.{listed}
+use Rattle.params.proofs.Sets.{listing-zeros, size-most}
+use Rattle.coefficients.proofs.Laws.{areas-fit, Lists, front-fits, front-count, front-is}
 use Rattle.coefficients.proofs.Values.{listed-columned, reads-none, reads-kept, reads-made}
 use Rattle.coefficients.proofs.reading_rows.Statement.{statement}
 use Rattle.coefficients.proofs.reading_rows.Tie as tie

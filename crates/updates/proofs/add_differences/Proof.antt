@@ -5,7 +5,7 @@ use native.Mathlib.Omega.{arith}
 use borrow.Author.Needs.{needs}
 use denote.Ref.{now}
 use lib.Seq.{length-take-le}
-use Rattle.coefficients.proofs.Laws.{placing-zeros}
+use Rattle.params.proofs.Placing.{placing-zeros}
 use Rattle.updates.proofs.Targets.{in-place, updated}
 use Rattle.updates.proofs.add_differences.Statement.{statement}
 use Rattle.updates.proofs.add_differences.Tie as tie

@@ -3,7 +3,8 @@ use mathlib.Core.Path.{subst}
 use Prim.Native.Nat.{ℕ, _*_, _≤_}
 use native.Mathlib.Omega.{arith}
 use borrow.Author.Needs.{needs}
-use Rattle.coefficients.proofs.Laws.{size-most, areas-fit}
+use Rattle.params.proofs.Sets.{size-most}
+use Rattle.coefficients.proofs.Laws.{areas-fit}
 use Rattle.access.proofs.decoding.decode_parts.Statement.{statement}
 use Rattle.access.proofs.decoding.decode_parts.Tie as tie
 

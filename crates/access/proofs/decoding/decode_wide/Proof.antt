@@ -1,7 +1,8 @@
 -- At most 32 parts come of at most 32 nodes. Assumes nothing.
 use native.Mathlib.Omega.{arith}
 use borrow.Author.Needs.{needs}
-use Rattle.coefficients.proofs.Laws.{size-most, areas-fit}
+use Rattle.params.proofs.Sets.{size-most}
+use Rattle.coefficients.proofs.Laws.{areas-fit}
 use Rattle.access.proofs.decoding.decode_wide.Statement.{statement}
 use Rattle.access.proofs.decoding.decode_wide.Tie as tie
 

@@ -7,9 +7,10 @@ use borrow.Author.Needs.{needs}
 use denote.Ref.{now}
 use lib.ListN.{length, drop}
 use lib.Seq.{length-take-le, take-length}
-use Rattle.params.specs.Nodes.{size}
-use Rattle.coefficients.specs.Coefficients.{placesOf}
-use Rattle.coefficients.proofs.Laws.{size-most, areas-fit, placing-zeros, buffer-fits, buffer-count}
+use Rattle.params.specs.Nodes.{size, placesOf}
+use Rattle.params.proofs.Sets.{size-most}
+use Rattle.params.proofs.Placing.{placing-zeros}
+use Rattle.coefficients.proofs.Laws.{areas-fit, buffer-fits, buffer-count}
 use Rattle.access.proofs.PowerBlocks.{lent-fronts}
 use Rattle.access.proofs.ReadBack.{decoded}
 use Rattle.access.proofs.decoding.decode_within.Statement.{statement}

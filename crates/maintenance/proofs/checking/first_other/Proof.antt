@@ -5,9 +5,8 @@ use native.Mathlib.Omega.{arith}
 use borrow.Author.Needs.{needs}
 use denote.Ref.{now}
 use lib.ListN.{length}
-use Rattle.params.proofs.Sets.{listing-zeros}
+use Rattle.params.proofs.Sets.{listing-zeros, size-most}
 use Rattle.maintenance.specs.Cores.{Listing}
-use Rattle.coefficients.proofs.Laws.{size-most}
 use Rattle.maintenance.proofs.Placing.{Listed, node-low, fresh-held, block-held}
 use Rattle.maintenance.proofs.Searching.{Passed, passed-none, passed-more, passed-all, found}
 use Rattle.maintenance.proofs.checking.first_other.Statement.{statement}

@@ -5,9 +5,8 @@ use native.Mathlib.Omega.{arith}
 use borrow.Author.Needs.{needs}
 use denote.Ref.{now}
 use lib.ListN.{length}
-use Rattle.params.proofs.Sets.{listing-zeros}
+use Rattle.params.proofs.Sets.{listing-zeros, size-most}
 use Rattle.maintenance.specs.Cores.{Listing}
-use Rattle.coefficients.proofs.Laws.{size-most}
 use Rattle.maintenance.proofs.Placing.{Listed, node-low, fresh-held, block-held, Putting, putting-none, putting-all, put-turn}
 use Rattle.maintenance.proofs.putting.put_blocks.Statement.{statement}
 use Rattle.maintenance.proofs.putting.put_blocks.Tie as tie

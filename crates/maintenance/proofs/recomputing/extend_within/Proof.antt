@@ -6,7 +6,8 @@ use borrow.Author.Needs.{needs}
 use denote.Ref.{now}
 use lib.ListN.{length, take}
 use lib.Seq.{length-take-le}
-use Rattle.coefficients.proofs.Laws.{areas-fit, buffer-fits, buffer-count, size-most, first-length}
+use Rattle.params.proofs.Sets.{size-most}
+use Rattle.coefficients.proofs.Laws.{areas-fit, buffer-fits, buffer-count, first-length}
 use Rattle.maintenance.proofs.Values.{extended-lent}
 use Rattle.maintenance.proofs.recomputing.extend_within.Statement.{statement}
 use Rattle.maintenance.proofs.recomputing.extend_within.Tie as tie

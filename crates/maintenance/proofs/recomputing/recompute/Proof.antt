@@ -5,8 +5,10 @@ use native.Mathlib.Omega.{arith}
 use borrow.Author.Needs.{needs}
 use denote.Ref.{now}
 use lib.ListN.{length}
-use Rattle.coefficients.specs.Coefficients.{placesOf}
-use Rattle.coefficients.proofs.Laws.{size-most, length-places, placing-zeros, placed-length}
+use Rattle.params.specs.Nodes.{placesOf}
+use Rattle.params.proofs.Sets.{size-most}
+use Rattle.params.proofs.Placing.{length-places, placing-zeros}
+use Rattle.coefficients.proofs.Laws.{placed-length}
 use Rattle.maintenance.proofs.PairBlocks.{recompute-asks, recomputed}
 use Rattle.maintenance.proofs.recomputing.recompute.Statement.{statement}
 use Rattle.maintenance.proofs.recomputing.recompute.Tie as tie

@@ -9,8 +9,10 @@ use denote.Ref.{now}
 use lib.ListN.{length, take}
 use lib.Seq.{length-take-le}
 use Rattle.params.specs.Nodes.{size}
+use Rattle.params.proofs.Sets.{size-most}
+use Rattle.params.proofs.Placing.{length-in-order}
 use Rattle.maintenance.specs.Cores.{Extended, Put}
-use Rattle.coefficients.proofs.Laws.{buffer-front, buffer-fits, buffer-count, size-most, length-in-order, first-length, first-at}
+use Rattle.coefficients.proofs.Laws.{buffer-front, buffer-fits, buffer-count, first-length, first-at}
 use Rattle.gates.proofs.Valid.{blocks-fit}
 use Rattle.maintenance.proofs.Served.{outside-most}
 use Rattle.maintenance.proofs.Rearranged.{free-asks, made-asks, made-listing, rearranged}

@@ -1,7 +1,7 @@
 -- Room for 32 blocks of 1,024 bytes is enough. Assumes nothing.
 use native.Mathlib.Omega.{arith}
 use borrow.Author.Needs.{needs}
-use Rattle.coefficients.proofs.Laws.{size-most}
+use Rattle.params.proofs.Sets.{size-most}
 use Rattle.gates.proofs.Valid.{blocks-most}
 use Rattle.maintenance.proofs.repairing.repair_many.Statement.{statement}
 use Rattle.maintenance.proofs.repairing.repair_many.Tie as tie

@@ -8,8 +8,9 @@ use denote.Ref.{now}
 use lib.ListN.{length, take}
 use lib.Seq.{length-take-le}
 use Rattle.params.specs.Nodes.{size}
+use Rattle.params.proofs.Sets.{size-most}
 use Rattle.maintenance.specs.Cores.{Put}
-use Rattle.coefficients.proofs.Laws.{buffer-front, buffer-fits, buffer-count, size-most}
+use Rattle.coefficients.proofs.Laws.{buffer-front, buffer-fits, buffer-count}
 use Rattle.gates.proofs.Valid.{blocks-most}
 use Rattle.maintenance.proofs.Served.{repair-asks, repaired}
 use Rattle.maintenance.proofs.repairing.repair_within.Statement.{statement}
