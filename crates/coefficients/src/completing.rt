@@ -2,9 +2,9 @@
 use crate::logarithms::exponent;
 use crate::logarithms::opposite;
 use crate::logarithms::reduced;
-use crate::point;
 use crate::raising::fill_rows;
 use base::wide;
+use code::point;
 use kernels::add_product;
 use params::Node;
 use params::in_order;

@@ -7,21 +7,10 @@ mod raising;
 mod reading;
 
 use base::is_product;
-use field::Elem;
 use field::logs;
 use field::powers;
-use params::Node;
 use params::NodeSet;
-ghost use mathlib.Core.Path.{_≡_};
-ghost use Rattle.code.specs.Code.{point};
 ghost use Rattle.coefficients.specs.Coefficients.{PowersPost, ReadsPost, ExtendsPost};
-
-// The point rule: the only place where a node's number becomes a field element.
-pub fn point(node: Node) -> Elem
-    ensures { λ r. ⌜ r .0 ≡ point (node .0) ⌝ }
-{
-    Elem(node.0)
-}
 
 // out := a row for each node, the powers e + 1, .., e + m of its point. Where out has no room for just these, nothing is written.
 pub fn power_rows(nodes: &[u8], e: usize, m: usize, out: &mut [u8])

@@ -1,8 +1,8 @@
 // Rows of powers.
 use crate::logarithms::exponent;
 use crate::logarithms::reduced;
-use crate::point;
 use blocks::clear;
+use code::point;
 use params::Node;
 ghost use mathlib.Core.Path.{_≡_};
 ghost use Prim.Native.Nat.{_*_, _<_};

@@ -9,7 +9,7 @@ use crate::logarithms::exponent;
 use crate::logarithms::opposite;
 use crate::logarithms::raised;
 use crate::logarithms::reduced;
-use crate::point;
+use code::point;
 use params::Node;
 ghost use mathlib.Core.Path.{_≡_};
 ghost use Prim.Native.Nat.{ℕ, _+_, _*_, _≤_, _<_};
