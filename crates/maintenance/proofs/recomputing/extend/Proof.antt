@@ -4,7 +4,8 @@ use Prim.Native.Nat.{ℕ, _+_, _*_, _≤_}
 use native.Mathlib.Nat.{mul-le-mul}
 use native.Mathlib.Omega.{arith}
 use borrow.Author.Needs.{needs}
-use Rattle.coefficients.proofs.Laws.{size-most, areas-fit}
+use Rattle.params.proofs.Sets.{size-most}
+use Rattle.coefficients.proofs.Laws.{areas-fit}
 use Rattle.maintenance.proofs.recomputing.extend.Statement.{statement}
 use Rattle.maintenance.proofs.recomputing.extend.Tie as tie
 

@@ -3,7 +3,7 @@ use mathlib.Core.Path.{subst}
 use Prim.Native.Nat.{ℕ, _*_, _≤_}
 use native.Mathlib.Omega.{arith}
 use borrow.Author.Needs.{needs}
-use Rattle.coefficients.proofs.Laws.{size-most}
+use Rattle.params.proofs.Sets.{size-most}
 use Rattle.gates.proofs.Valid.{blocks-most}
 use Rattle.maintenance.proofs.repairing.repair_large.Statement.{statement}
 use Rattle.maintenance.proofs.repairing.repair_large.Tie as tie
