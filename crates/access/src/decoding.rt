@@ -25,7 +25,7 @@ pub fn decode(a: Params, codeword: &[u8], from: NodeSet, out: &mut [u8]) -> u32
     0
 }
 
-// An accepted call: makes room for the rows that take the blocks read to the message, no more than is wanted.
+// An accepted call: makes room for the rows that take the blocks read to the message, no more than is wanted, since room is cleared at each call.
 fn decode_parts(a: Params, codeword: &[u8], from: NodeSet, out: &mut [u8])
     requires { ⌜ DecodeAccepted a (length (now codeword)) (length (now out)) (from .0) ⌝ }
     ensures { λ _. ⌜ Decoded a (now (codeword .entry)) (from .0) (now (out .exit)) ⌝ }

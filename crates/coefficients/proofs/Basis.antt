@@ -1,10 +1,9 @@
 -- The lowest coefficients of the basis polynomials of Lagrange. The product of all z - x is (z - c) times a quotient, for the point c of one node; so each of its
 -- coefficients is one of the quotient less c times the next one, and from the lowest up the quotient's follow. Assumes nothing.
-use mathlib.Core.Path.{_≡_, refl, sym, ap, ap₂, _∙_, subst}
+use mathlib.Core.Path.{_≡_, refl, sym, ap, ap₂, _∙_, subst, subst⁻¹}
 use mathlib.Core.List.{List}
 use mathlib.Core.Logic.{⊎-elim}
 use Prim.Native.Nat.{ℕ, zero, suc, _+_, _-_, _*_, _/_, _%_, _≤_, _<_}
-use native.Mathlib.Nat.{zero-lt-suc, mod-lt}
 use native.Mathlib.Numerals.{add-one}
 use native.Mathlib.Omega.{arith}
 use lib.Arith.{digits-div, digits-mod}
@@ -13,10 +12,10 @@ use lib.Seq.{getD-set-same, getD-set-other}
 use Rattle.base.specs.Seq.{cell}
 use Rattle.base.proofs.Cases.{eq-or}
 use Rattle.base.proofs.Seq.{cell-lt}
-use Rattle.field.specs.Field.{add, mul, pow}
+use Rattle.field.specs.Field.{IsByte, add, mul, pow}
 use Rattle.field.proofs.Addition.{add-assoc, add-self, add-zero-left}
 use Rattle.field.proofs.Multiplication.{mul-byte, mul-comm, mul-assoc, mul-add-left, mul-one-left, mul-one-right}
-use Rattle.field.proofs.Exponents.{pow-byte, pow-zero, pow-add, pow-mod, quotient-unique}
+use Rattle.field.proofs.Exponents.{pow-byte, pow-add, mul-nonzero, quotient-unique}
 use Rattle.interpolation.specs.Polynomial.{Points}
 use Rattle.interpolation.specs.Lagrange.{coefs, apart}
 use Rattle.interpolation.proofs.Lagrange.{apart-byte, apart-nonzero, coefs-first, coefs-next, whole-first, whole-next}
@@ -89,18 +88,19 @@ module _ (nodes : List ℕ) (points : Points (pointsOf nodes)) (d : ℕ) (hd : d
       go (suc j) h =
           w .next j (omega arith) ∙ ap₂ add (p j (omega arith)) (ap₂ mul e (p (suc j) (omega arith))) ∙ sym (product-next j)
 
-  -- its lowest coefficient by exponents
-  pub first-more : (s l : ℕ) → pow 2 l ≡ point (getD nodes d 0) → pow 2 s ≡ productAt nodes d 0 → pow 2 (s + l) ≡ productAt nodes (d + 1) 0
-  first-more s l hl hs =
-      pow-add 2 s l ∙ ap₂ mul hs hl ∙ mul-comm _ _ ∙ sym product-first ∙ ap (λ (k : ℕ). productAt nodes k 0) (sym (add-one d))
+-- its lowest coefficient is the product of the points, none of which is 00
+module _ (nodes : List ℕ) (points : Points (pointsOf nodes)) where
+  first-byte : (d : ℕ) → d ≤ length nodes → IsByte (productAt nodes d 0)
+  unfolding coefs
+  first-byte zero h = omega arith
+  first-byte (suc d) h = subst⁻¹ IsByte (product-first nodes points d (omega arith)) (mul-byte _ _)
 
-pub first-none : (nodes : List ℕ) → pow 2 0 ≡ productAt nodes 0 0
-unfolding coefs
-first-none nodes = pow-zero 2
-
-pub first-all : (nodes : List ℕ) (s d : ℕ) → d ≡ length nodes → pow 2 s ≡ productAt nodes d 0
-    → (s % 255 < 255) × (pow 2 (s % 255) ≡ productAt nodes (length nodes) 0)
-first-all nodes s d whole h = (mod-lt s (zero-lt-suc 254), pow-mod s ∙ h ∙ ap (λ (k : ℕ). productAt nodes k 0) whole)
+  pub first-nonzero : (d : ℕ) → d ≤ length nodes → productAt nodes d 0 ≡ 0 → ⊥
+  unfolding coefs
+  first-nonzero zero h e = omega arith
+  first-nonzero (suc d) h e =
+      mul-nonzero _ _ (point-byte nodes points d (omega arith)) (first-byte d (omega arith)) (point-nonzero nodes points d (omega arith))
+      (first-nonzero d (omega arith)) (sym (product-first nodes points d (omega arith)) ∙ e)
 
 -- ---- the coefficients of one basis polynomial
 
@@ -139,7 +139,7 @@ module _ (nodes : List ℕ) (points : Points (pointsOf nodes)) (i : ℕ) (hi : i
       ∙ ap (λ (y : ℕ). add (getD (coefs (pointsOf nodes) y (length nodes)) j 0) (mul y (getD (coefs (pointsOf nodes) y (length nodes)) (suc j) 0)))
       (pointsOf-at nodes i hi)
 
-  -- c times a coefficient, scaled, and divided by c
+  -- x times a coefficient, scaled, and divided by x
   divided : (j : ℕ) → mul (mul (mul x (quotient j)) (pow 2 scale)) (pow 2 back) ≡ basis nodes i j
   divided j =
       ap (λ (k : ℕ). mul k (pow 2 back)) (mul-assoc x (quotient j) (pow 2 scale)) ∙ ap (λ (k : ℕ). mul k (pow 2 back)) (mul-comm x _)

@@ -45,16 +45,17 @@ pub record Widened (x : ℕ) (old new : List ℕ) : Type 0 where
 abbrev pub Lowest : List ℕ → ℕ → List ℕ → Type 0
 Lowest nodes d p = (j : ℕ) → j < length p → getD p j 0 ≡ productAt nodes d j
 
--- the columns of rows, count entries each, are the basis polynomials of the first d nodes
+-- the columns of rows are the count lowest coefficients of the basis polynomials of the first d nodes
 abbrev pub BasisRows : ℕ → List ℕ → ℕ → List ℕ → Type 0
 BasisRows count nodes d rows = (i j : ℕ) → i < d → j < count → cell (length nodes) rows j i ≡ basis nodes i j
 
--- column i has become the basis polynomial of node i, and the other columns are as they were
+-- column i has become the count lowest coefficients of the basis polynomial of node i, and the other columns are as they were
 pub record BasisPut (count : ℕ) (nodes : List ℕ) (i : ℕ) (old new : List ℕ) : Type 0 where
   pub put : (j : ℕ) → j < count → cell (length nodes) new j i ≡ basis nodes i j
   pub kept : (j k : ℕ) → k < length nodes → (k ≡ i → ⊥) → cell (length nodes) new j k ≡ cell (length nodes) old j k
 
--- what this asks: nodes with points that tell a polynomial, at most 32, and room for so many of each basis polynomial's coefficients, at least one
+-- what this asks: at most 32 nodes, with points that tell a polynomial, and room for count coefficients of each basis polynomial, at least one and no more
+-- than there are nodes
 pub record Columned (count : ℕ) (nodes rows : List ℕ) : Type 0 where
   pub some : 0 < count
   pub few : count ≤ length nodes

@@ -22,8 +22,8 @@ pub fn power_rows(nodes: &[u8], e: usize, m: usize, out: &mut [u8])
     raising::fill_rows(&logs(), &powers(), nodes, e, m, out);
 }
 
-// rows := the coefficients that take the values at the set's nodes to the k leading coefficients of a polynomial that has as many as there are nodes: column i
-// has those of the basis polynomial of the set's node i. Where k exceeds the number of nodes, or rows has no room for just these, nothing is written.
+// rows := the coefficients that take the values at the set's nodes to the k leading coefficients of a polynomial with as many coefficients as there are nodes:
+// column i has those of the basis polynomial of the set's node i. Where k exceeds the number of nodes, or rows has no room for just these, nothing is written.
 pub fn reading_rows(k: usize, from: NodeSet, rows: &mut [u8])
     ensures { λ _. ⌜ ReadsPost k (from .0) (now (rows .entry)) (now (rows .exit)) ⌝ }
 {

@@ -27,8 +27,7 @@ pub(crate) fn basis_rows(logs: &[u8], exps: &[u8], nodes: &[u8], count: usize, r
 {
     let mut product = [0u8; 32];
     multiply_out(logs, exps, nodes, &mut product[..count]);
-    let first = first_exponent(logs, nodes);
-    fill_columns(logs, exps, nodes, first, &product[..count], rows);
+    fill_columns(logs, exps, nodes, &product[..count], rows);
 }
 
 // product := the product of all z - x, as far as it goes. It is zero when it comes.
@@ -65,38 +64,15 @@ fn widen(logs: &[u8], exps: &[u8], x: usize, p: &mut [u8])
     p[0] = raised(logs, exps, p[0], x);
 }
 
-// The exponent of the product's lowest coefficient, which is the product of all points.
-fn first_exponent(logs: &[u8], nodes: &[u8]) -> usize
-    requires { ⌜ LogTable (now logs) ⌝ }
-    requires { ⌜ length (now nodes) ≤ 32 ⌝ }
-    requires { ⌜ Points (pointsOf (now nodes)) ⌝ }
-    ensures { λ r. ⌜ (r < 255) × (pow 2 r ≡ productAt (now (nodes .entry)) (length (now (nodes .entry))) 0) ⌝ }
-{
-    let mut sum = 0;
-    let mut d = 0;
-    while d < nodes.len() {
-        sum += exponent(logs, point(Node(nodes[d])).0);
-        d += 1;
-    }
-    sum % 255
-}
-
-// Column by column.
-fn fill_columns(
-    logs: &[u8],
-    exps: &[u8],
-    nodes: &[u8],
-    first: usize,
-    product: &[u8],
-    rows: &mut [u8],
-)
+// Column by column, from the exponent of the product's lowest coefficient: that is the product of all points, and so not 00.
+fn fill_columns(logs: &[u8], exps: &[u8], nodes: &[u8], product: &[u8], rows: &mut [u8])
     requires { ⌜ LogTable (now logs) ⌝ }
     requires { ⌜ PowerTable (now exps) ⌝ }
     requires { ⌜ Columned (length (now product)) (now nodes) (now rows) ⌝ }
-    requires { ⌜ (first < 255) × (pow 2 first ≡ productAt (now nodes) (length (now nodes)) 0) ⌝ }
     requires { ⌜ Lowest (now nodes) (length (now nodes)) (now product) ⌝ }
     ensures { λ _. ⌜ BasisRows (length (now (product .entry))) (now (nodes .entry)) (length (now (nodes .entry))) (now (rows .exit)) ⌝ }
 {
+    let first = exponent(logs, product[0]);
     let mut i = 0;
     while i < nodes.len() {
         fill_column(logs, exps, nodes, i, first, product, rows);
@@ -104,8 +80,8 @@ fn fill_columns(
     }
 }
 
-// The basis polynomial's coefficients belong to the powers from 1 on: it is z times the quotient, divided by what that is at the point. Each coefficient of the
-// product is one of the quotient less the point times the next one.
+// Column i of rows := the lowest coefficients of node i's basis polynomial. They belong to the powers from 1 on: it is z times the quotient, divided by what that
+// is at the point. Each coefficient of the product is one of the quotient less the point times the next one.
 fn fill_column(
     logs: &[u8],
     exps: &[u8],

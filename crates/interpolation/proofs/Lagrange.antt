@@ -1,5 +1,6 @@
 -- Lagrange's formula: z^(e+1) times the product of all z - d, for every point d but x, has as many coefficients as there are points and vanishes at all
--- the points but x. So the sum of these, each brought to the polynomial's value at its own point, is the polynomial itself. Assumes nothing.
+-- the points but x. So the sum of these, each brought to the polynomial's value at its own point, is the polynomial itself. The
+-- product over all points is z - x times that over all but x, coefficient by coefficient. Assumes nothing.
 use mathlib.Core.Path.{_≡_, refl, sym, ap, ap₂, _∙_}
 use mathlib.Core.Bool.{Bool, true, false}
 use mathlib.Core.List.{List}

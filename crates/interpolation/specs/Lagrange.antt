@@ -1,4 +1,4 @@
--- Lagrange's basis polynomials, by their values: each is 01 at one of the points and 00 at the others. e is the number of leading coefficients; these
+-- Lagrange's basis polynomials, by their values and by their coefficients: each is 01 at one of the points and 00 at the others. e is the number of leading coefficients; these
 -- polynomials have none of them, so that each has the factor z^(e+1). A sum is a difference here, since a + a = 00. Assumes nothing.
 use mathlib.Core.Bool.{Bool, true, false}
 use mathlib.Core.List.{List, [], _∷_}
@@ -12,7 +12,7 @@ unfoldable pub value : List ℕ → ℕ → ℕ
 value [] z = 0
 value (a ∷ p) z = add a (mul z (value p z))
 
--- the coefficients of r + (z + c)·q, in the same order
+-- the coefficients of r + (z - c)·q, in the same order
 unfoldable pub times : ℕ → ℕ → List ℕ → List ℕ
 times c r [] = r ∷ []
 times c r (a ∷ q) = add r (mul c a) ∷ times c a q

@@ -64,8 +64,9 @@ fn word_of(coeffs: &[u8]) -> u64
     word
 }
 
-// The bits of c, each as a byte of a word, the highest the lowest byte. The factor is the sum of 2^(56 - 9b) over b from 0 to 6: of the copies of the seven lower bits
-// that it makes, each brings one, bit b, to its place 56 - 8b. The mask is the sum of 2^(56 - 8b), and leaves those.
+// The bits of c, each as a byte of a word, the highest the lowest byte. The factor is the sum of 2^(56 - 9b) over b from 0 to 6: it makes copies of the seven lower bits,
+// nine places apart, so that none meets another, and each brings one bit, b, to its place 56 - 8b. The mask is the sum of 2^(56 - 8b), and leaves those. The highest bit
+// has place 0.
 fn spread(c: u8) -> u64
     ensures { λ r. ⌜ r ≡ word 8 (λ s. bit s c) ⌝ }
 {

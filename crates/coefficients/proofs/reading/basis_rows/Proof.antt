@@ -26,19 +26,16 @@ multiply-out-requires c κs =
 back : (c : tie.After-multiply-out) → length (c .multiply-out .last .1 .1 .1 .0) ≡ c .before .before .before .before .before .before .args .count
 back c = c .multiply-out .kept .1 .1 .1 .0 ∙ sym (slice-aggregate-multiply-out (c .before))
 
-first-exponent-requires : tie.Need-first-exponent-requires
-first-exponent-requires c κs = search needs
-
 array-share-prefix-product : tie.Need-array-share-prefix-product
-array-share-prefix-product c = buffer-fits _ (c .before .before .multiply-out .last .1 .1 .1 .0) _ (back (c .before .before))
+array-share-prefix-product c = buffer-fits _ (c .before .multiply-out .last .1 .1 .1 .0) _ (back (c .before))
 
 slice-aggregate-fill-columns : tie.Need-slice-aggregate-fill-columns
-slice-aggregate-fill-columns c = buffer-count _ (c .before .before .before .multiply-out .last .1 .1 .1 .0) _ (back (c .before .before .before))
+slice-aggregate-fill-columns c = buffer-count _ (c .before .before .multiply-out .last .1 .1 .1 .0) _ (back (c .before .before))
 
 fill-columns-requires : tie.Need-fill-columns-requires
 fill-columns-requires c κs =
-    let s = c .before .before .before .before .before .before .before .before .before .before in
-    let m = c .before .before .before .before in
+    let s = c .before .before .before .before .before .before .before .before .before in
+    let m = c .before .before .before in
     let r = s .pre .1 .1 in
     let n = slice-aggregate-fill-columns (c .before) in (
       s .pre .0,
@@ -46,10 +43,7 @@ fill-columns-requires c κs =
         s .pre .1 .0,
         (
           record { some = omega (arith, r .some, n); few = omega (arith, r .few, n); most = r .most; points = r .points; room = r .room ∙ ap (λ (k : ℕ). k * length (now (s .args .nodes))) n },
-          (
-            c .before .before .first-exponent .ensures,
-            subst⁻¹ (Lowest (now (s .args .nodes)) (length (now (s .args .nodes)))) (buffer-front _ (m .multiply-out .last .1 .1 .1 .0) _ (back m)) (m .multiply-out .ensures),
-          ),
+          subst⁻¹ (Lowest (now (s .args .nodes)) (length (now (s .args .nodes)))) (buffer-front _ (m .multiply-out .last .1 .1 .1 .0) _ (back m)) (m .multiply-out .ensures),
         ),
       ),
     )
@@ -59,9 +53,9 @@ same-length c = search needs
 
 returns : tie.Need-returns
 returns c =
-    let s = c .before .before .before .before .before .before .before .before .before .before .before .before .before in
+    let s = c .before .before .before .before .before .before .before .before .before .before .before .before in
     let f = c .before .before in
-    subst⁻¹ (λ (k : ℕ). BasisRows k (now (s .args .nodes)) (length (now (s .args .nodes))) (f .fill-columns .last .1 .1 .1 .1 .1 .0)) (slice-aggregate-fill-columns (f .before .before)) (f .fill-columns .ensures)
+    subst⁻¹ (λ (k : ℕ). BasisRows k (now (s .args .nodes)) (length (now (s .args .nodes))) (f .fill-columns .last .1 .1 .1 .1 .0)) (slice-aggregate-fill-columns (f .before .before)) (f .fill-columns .ensures)
 
 pub basis-rows-spec : {M : Type 1} → statement M
 basis-rows-spec =
@@ -70,7 +64,6 @@ basis-rows-spec =
     array-borrow-prefix-product
     slice-aggregate-multiply-out
     multiply-out-requires
-    first-exponent-requires
     array-share-prefix-product
     slice-aggregate-fill-columns
     fill-columns-requires
