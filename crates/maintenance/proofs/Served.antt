@@ -114,12 +114,12 @@ module _ (a : Params) (codeword : List ℕ) (ok : CheckAccepted a (length codewo
   most : q ≤ 32
   most = omega (arith, working-le a (ok .valid), ok .valid .shape .n-high)
 
-  -- the others, m of them as the code counts them, are those behind the first r
-  pub others-count : (m : ℕ) → rest < 2 ^ 32 → m ≡ size rest → m ≡ a .n - a .r
+  -- the others, m of them as the code counts them, are those behind the first ones
+  pub others-count : (m : ℕ) → rest < 2 ^ 32 → m ≡ size rest → m ≡ a .n - working a
   others-count m word′ e =
       let inside = within-has (a .n) s word .1 (λ i h. omega (arith, first-most q s most told i h, working-le a (ok .valid))) in
       e ∙ outside-size (a .n) s rest (ok .valid .shape .n-high) others word′ inside
-      ∙ ap (λ (k : ℕ). a .n - k) (first-size q s most told word ∙ hq ∙ working-is a (ok .valid))
+      ∙ ap (λ (k : ℕ). a .n - k) (first-size q s most told word ∙ hq)
 
   pub check-asks : (fresh : ℕ) → fresh ≡ size rest * a .b → Recomputable a s rest (length codeword) fresh × Listing (a .b) rest (length codeword) fresh
   check-asks fresh room = (

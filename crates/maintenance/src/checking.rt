@@ -9,6 +9,7 @@ use params::NodeSet;
 use params::Params;
 ghost use Prim.Native.Nat.{_-_, _*_, _≤_};
 ghost use lib.ListN.{length};
+ghost use Rattle.params.specs.Params.{working};
 ghost use Rattle.gates.specs.Valid.{CheckAccepted};
 ghost use Rattle.code.specs.Calls.{CheckPost};
 ghost use Rattle.maintenance.specs.Cores.{Listing, Searched, Served};
@@ -24,8 +25,8 @@ pub fn check(a: Params, codeword: &[u8]) -> Verdict
     check_blocks(a, codeword)
 }
 
-// An accepted call: makes room for the blocks of the nodes behind the first r, no more than is wanted, since room is cleared at each call. As in
-// `repair_blocks`, the larger rooms have a function with two callers.
+// An accepted call: makes room for the blocks of the nodes behind the first ones, no more than is wanted, since room is cleared at each call. As in
+// `repair_blocks`, the function for the larger rooms is called at two places.
 fn check_blocks(a: Params, codeword: &[u8]) -> Verdict
     requires { ⌜ CheckAccepted a (length (now codeword)) ⌝ }
     ensures { λ r. ⌜ Served a (now (codeword .entry)) r ⌝ }
@@ -33,7 +34,7 @@ fn check_blocks(a: Params, codeword: &[u8]) -> Verdict
     if 512 < a.b {
         return check_large(a, codeword);
     }
-    if (a.n - a.r) * a.b <= 128 {
+    if (a.n - a.working()) * a.b <= 128 {
         return check_least(a, codeword);
     }
     check_large(a, codeword)
@@ -41,7 +42,7 @@ fn check_blocks(a: Params, codeword: &[u8]) -> Verdict
 
 fn check_least(a: Params, codeword: &[u8]) -> Verdict
     requires { ⌜ CheckAccepted a (length (now codeword)) ⌝ }
-    requires { ⌜ (a .n - a .r) * a .b ≤ 128 ⌝ }
+    requires { ⌜ (a .n - working a) * a .b ≤ 128 ⌝ }
     ensures { λ r. ⌜ Served a (now (codeword .entry)) r ⌝ }
 {
     let mut fresh = [0u8; 128];
@@ -52,7 +53,7 @@ fn check_large(a: Params, codeword: &[u8]) -> Verdict
     requires { ⌜ CheckAccepted a (length (now codeword)) ⌝ }
     ensures { λ r. ⌜ Served a (now (codeword .entry)) r ⌝ }
 {
-    let size = (a.n - a.r) * a.b;
+    let size = (a.n - a.working()) * a.b;
     if size <= 1024 {
         return check_few(a, codeword);
     }
@@ -64,7 +65,7 @@ fn check_large(a: Params, codeword: &[u8]) -> Verdict
 
 fn check_few(a: Params, codeword: &[u8]) -> Verdict
     requires { ⌜ CheckAccepted a (length (now codeword)) ⌝ }
-    requires { ⌜ (a .n - a .r) * a .b ≤ 1024 ⌝ }
+    requires { ⌜ (a .n - working a) * a .b ≤ 1024 ⌝ }
     ensures { λ r. ⌜ Served a (now (codeword .entry)) r ⌝ }
 {
     let mut fresh = [0u8; 1024];
@@ -73,7 +74,7 @@ fn check_few(a: Params, codeword: &[u8]) -> Verdict
 
 fn check_more(a: Params, codeword: &[u8]) -> Verdict
     requires { ⌜ CheckAccepted a (length (now codeword)) ⌝ }
-    requires { ⌜ (a .n - a .r) * a .b ≤ 10240 ⌝ }
+    requires { ⌜ (a .n - working a) * a .b ≤ 10240 ⌝ }
     ensures { λ r. ⌜ Served a (now (codeword .entry)) r ⌝ }
 {
     let mut fresh = [0u8; 10240];
@@ -91,7 +92,7 @@ fn check_many(a: Params, codeword: &[u8]) -> Verdict
 // The nodes 1..q agree with their own pair; the others are compared with it.
 fn check_within(a: Params, codeword: &[u8], fresh: &mut [u8]) -> Verdict
     requires { ⌜ CheckAccepted a (length (now codeword)) ⌝ }
-    requires { ⌜ (a .n - a .r) * a .b ≤ length (now fresh) ⌝ }
+    requires { ⌜ (a .n - working a) * a .b ≤ length (now fresh) ⌝ }
     ensures { λ r. ⌜ Served a (now (codeword .entry)) r ⌝ }
 {
     let first = NodeSet(0).outside(a.working());

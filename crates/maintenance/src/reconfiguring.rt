@@ -36,7 +36,7 @@ pub fn reconfigure(
 }
 
 // An accepted call: makes room for blocks twice, no more than is wanted, since room is cleared at each call. No set of the new nodes has more blocks than out.
-// As in `repair_blocks`, the larger rooms have a function with two callers.
+// As in `repair_blocks`, the function for the larger rooms is called at two places.
 fn rearrange(
     a: Params,
     shape: Shape,

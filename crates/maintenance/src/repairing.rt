@@ -22,8 +22,8 @@ pub fn repair(a: Params, codeword: &mut [u8], from: NodeSet, lost: NodeSet) -> u
     0
 }
 
-// An accepted call: makes room for the lost blocks, no more than is wanted, since room is cleared at each call. The larger rooms have a function with two callers:
-// the compiler does not make that part of this one, and so a small call takes no stack for them.
+// An accepted call: makes room for the lost blocks, no more than is wanted, since room is cleared at each call. The function for the larger rooms is called at two
+// places, and the first test is there for that alone: the compiler then keeps it apart, and a small call takes no stack for them.
 fn repair_blocks(a: Params, codeword: &mut [u8], from: NodeSet, lost: NodeSet)
     requires { ⌜ RepairAccepted a (length (now codeword)) (from .0) (lost .0) ⌝ }
     ensures { λ _. ⌜ Repaired a (now (codeword .entry)) (from .0) (lost .0) (now (codeword .exit)) ⌝ }
