@@ -1,14 +1,11 @@
--- The powers of the nodes' points, applied to message and slack side by side, give document 01's blocks; the nodes 1..n are those outside the empty set.
--- Assumes nothing.
-use mathlib.Core.Path.{_≡_, sym, ap, ap₂, _∙_, subst}
-use mathlib.Core.Bool.{Bool, true, not, _&&_}
+-- The powers of the nodes' points, applied to message and slack side by side, give document 01's blocks. Assumes nothing.
+use mathlib.Core.Path.{_≡_, sym, ap, _∙_, subst}
 use mathlib.Core.List.{List, [], _++_, append-nil}
 use Prim.Native.Nat.{ℕ, suc, _-_, _*_, _^_, min, _≤_, _<_}
 use native.Mathlib.Nat.{le-refl}
 use native.Mathlib.Omega.{arith}
-use lib.Dec.{leb}
-use lib.ListN.{length, getD, take, drop, replicate, length-append, length-replicate}
-use lib.Seq.{getD-take, take-length}
+use lib.ListN.{length, take, drop, replicate, length-append, length-replicate}
+use lib.Seq.{take-length}
 use Rattle.base.specs.Seq.{cell}
 use Rattle.field.specs.Field.{add, mul, pow}
 use Rattle.field.specs.FiniteSum.{sum}
@@ -18,35 +15,17 @@ use Rattle.field.proofs.FiniteSum.{sum-zero, sum-ext}
 use Rattle.interpolation.specs.Polynomial.{evaluate}
 use Rattle.interpolation.proofs.Evaluate.{evaluate-join}
 use Rattle.interpolation.proofs.Rows.{cell-take, cell-drop}
-use Rattle.params.specs.Nodes.{has, count, outside, listed, inOrder}
+use Rattle.params.specs.Nodes.{inOrder}
 use Rattle.params.specs.Params.{slackParts, working}
 use Rattle.gates.specs.Valid.{Valid}
 use Rattle.params.specs.declared.Params.{Params}
-use Rattle.params.proofs.Sets.{node-at-rank, count-ext, range-yes, count-range, has-none, outside-has}
 use Rattle.gates.proofs.Valid.{working-is, working-le, working-held}
 use Rattle.code.specs.Code.{point, block}
 use Rattle.code.specs.Calls.{Encoded}
 use Rattle.kernels.specs.Blocks.{Fits, Added}
 use Rattle.kernels.proofs.Arriving.{ordered-product}
-use Rattle.coefficients.specs.Coefficients.{powerRows}
-use Rattle.coefficients.proofs.Laws.{areas-fit, buffer-front, cell-front, Lists, list-at, length-powerRows, powerRows-at, product-fits, first-length, first-at, first-inside, product-first}
-
--- ---- the nodes 1..n
-
-module _ (n all : ℕ) (small : n ≤ 32) (is : (i : ℕ) → has all i ≡ (outside n 0 i && leb i 32)) where
-  all-has : (j : ℕ) → j < n → has all (suc j) ≡ true
-  all-has j h = outside-has n 0 all small is (suc j) ∙ ap₂ (λ (x y : Bool). x && not y) (range-yes n j h) (has-none (suc j))
-
-  all-rank : (j : ℕ) → j < n → count (has all) j ≡ j
-  all-rank j h =
-      count-ext (has all) (λ i. leb 1 i && leb i j) j (λ i hi. all-has i (omega arith) ∙ sym (range-yes j i hi)) ∙ count-range j j (le-refl j)
-
-  -- the set's list begins with them
-  pub all-listed : (list : List ℕ) → all < 2 ^ 32 → Lists all list → (j : ℕ) → j < n → getD (take n list) j 0 ≡ suc j
-  all-listed list word e j h =
-      let r : count (has all) j ≡ j = all-rank j h in
-      getD-take n list j 0 h ∙ list-at all word list e j ∙ ap (λ (i : ℕ). getD (listed all) i 0) (sym r)
-      ∙ node-at-rank (has all) 32 j (omega arith) (all-has j h)
+use Rattle.coefficients.specs.Coefficients.{pointPowers}
+use Rattle.coefficients.proofs.Laws.{areas-fit, buffer-front, cell-front, length-pointPowers, pointPowers-at, product-fits, first-length, first-at, first-inside, product-first}
 
 -- ---- slices lent anew
 
@@ -75,15 +54,16 @@ module _ (a : Params) (ok : Valid a) (q : ℕ) (count-is : q ≡ min (working a)
   area-is = ap (λ (m : ℕ). a .n * m) all-parts
 
   -- the blocks, from powers at the front of a longer buffer
-  module _ (found rows rest : List ℕ) (full : length found ≡ a .n) (nodes : (j : ℕ) → j < a .n → getD found j 0 ≡ suc j) (powers : rows ≡ powerRows 0 q found) where
+  module _ (rows rest : List ℕ) (powers : rows ≡ pointPowers (a .n) q) where
+    full : length rows ≡ a .n * q
+    full = ap length powers ∙ length-pointPowers (a .n) q
+
     power-cell : (i j : ℕ) → i < a .n → j < q → cell q (rows ++ rest) i j ≡ pow (point (suc i)) (suc j)
     power-cell i j hi hj =
-        cell-front q (length found) rows rest (ap length powers ∙ length-powerRows 0 q found) i j (omega arith) hj
-        ∙ ap (λ (l : List ℕ). cell q l i j) powers ∙ powerRows-at 0 q found i j (omega arith) hj
-        ∙ ap₂ (λ (m e : ℕ). pow (point m) e) (nodes i hi) (omega arith)
+        cell-front q (a .n) rows rest full i j hi hj ∙ ap (λ (l : List ℕ). cell q l i j) powers ∙ pointPowers-at (a .n) q i j hi hj
 
     enough : a .n * q ≤ length (rows ++ rest)
-    enough = omega (arith, length-append rows rest, ap length powers ∙ length-powerRows 0 q found, ap (λ (m : ℕ). m * q) full)
+    enough = omega (arith, length-append rows rest, full)
 
     -- a block of the parts: all of them are leading coefficients
     whole-block : (parts : List ℕ) (i p : ℕ) → p < a .b

@@ -4,7 +4,6 @@ use blocks::copy_block;
 use coefficients::power_rows;
 use gates::encode_gate;
 use kernels::add_product;
-use params::NodeSet;
 use params::Params;
 use params::in_order;
 ghost use mathlib.Core.Path.{_≡_};
@@ -37,7 +36,7 @@ fn encode_blocks(a: Params, message: &[u8], slack: &[u8], codeword: &mut [u8])
         return;
     }
     let size = message.len() + slack.len();
-    if size <= 128 {
+    if size <= 64 {
         encode_least(a, message, slack, codeword);
         return;
     }
@@ -61,10 +60,10 @@ fn encode_large(a: Params, message: &[u8], slack: &[u8], codeword: &mut [u8])
 
 fn encode_least(a: Params, message: &[u8], slack: &[u8], codeword: &mut [u8])
     requires { ⌜ EncodeAccepted a (length (now message)) (length (now slack)) (length (now codeword)) ⌝ }
-    requires { ⌜ length (now message) + length (now slack) ≤ 128 ⌝ }
+    requires { ⌜ length (now message) + length (now slack) ≤ 64 ⌝ }
     ensures { λ _. ⌜ Encoded a (now (message .entry)) (now (slack .entry)) (now (codeword .exit)) ⌝ }
 {
-    let mut parts = [0u8; 128];
+    let mut parts = [0u8; 64];
     encode_joined(a, message, slack, &mut parts, codeword);
 }
 
@@ -150,9 +149,7 @@ fn encode_within(a: Params, parts: &[u8], rows: &mut [u8], codeword: &mut [u8])
     let n = a.n;
     let q = a.working();
     let area = n * q;
-    let mut nodes = [0u8; 32];
-    NodeSet(0).outside(n).list(&mut nodes);
-    power_rows(&nodes[..n], 0, q, &mut rows[..area]);
+    power_rows(n, q, &mut rows[..area]);
     let order = in_order();
     let columns = in_order();
     let size = parts.len();

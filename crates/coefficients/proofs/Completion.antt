@@ -3,7 +3,7 @@
 use mathlib.Core.Path.{_≡_, refl, sym, ap, ap₂, _∙_, subst, subst₂}
 use mathlib.Core.List.{List, _++_}
 use Prim.Native.Nat.{ℕ, suc, _*_, _^_, _≤_, _<_}
-use native.Mathlib.Nat.{zero-add, le-refl}
+use native.Mathlib.Nat.{le-refl}
 use native.Mathlib.Omega.{arith}
 use lib.ListN.{length, getD, take}
 use Rattle.base.specs.Seq.{cell}
@@ -19,15 +19,15 @@ use Rattle.params.proofs.Sets.{size-most, length-listed}
 use Rattle.code.specs.Code.{point}
 use Rattle.kernels.specs.Blocks.{Fits, Added}
 use Rattle.kernels.proofs.Arriving.{ordered-added}
-use Rattle.coefficients.specs.Coefficients.{pointAt, powerRows, Roomy, ExtendsPost}
-use Rattle.coefficients.specs.Working.{pointsOf, remaining, Carries, Shared, Sharable, Completed, Completable}
+use Rattle.coefficients.specs.Coefficients.{pointAt, Roomy, ExtendsPost}
+use Rattle.coefficients.specs.Working.{powerRows, pointsOf, remaining, Carries, Shared, Sharable, Completed, Completable}
 use Rattle.coefficients.proofs.Laws.{buffer-front, length-powerRows, powerRows-at, product-fits, first-length, first-at, first-inside, product-first}
 use Rattle.coefficients.proofs.Values.{listed-points}
 
 -- ---- the share of the leading coefficients
 
 -- by one product; the powers stand at the front of a buffer
-pub shared : (rows e : ℕ) (at gains powers rest order columns old new : List ℕ) → Sharable rows e at gains old → powers ≡ powerRows 0 e at → order ≡ inOrder
+pub shared : (rows e : ℕ) (at gains powers rest order columns old new : List ℕ) → Sharable rows e at gains old → powers ≡ powerRows e at → order ≡ inOrder
     → columns ≡ inOrder → Added e (length at) (take (length at * e) (powers ++ rest)) (take rows order) (take (length at) columns) gains old new
     → Shared rows e at gains old new
 shared rows e at gains powers rest order columns old new can told ho hc made =
@@ -40,7 +40,7 @@ shared rows e at gains powers rest order columns old new can told ho hc made =
           ∙ sum-ext m _ _
           (λ o ho′.
           ap (mul (cell m gains t o))
-          (ap (λ (l : List ℕ). cell e l o j) hp ∙ powerRows-at 0 e at o j ho′ hj ∙ ap (pow (point (getD at o 0))) (zero-add (suc j)))));
+          (ap (λ (l : List ℕ). cell e l o j) hp ∙ powerRows-at e at o j ho′ hj)));
     }
   where
     m : ℕ
@@ -49,8 +49,8 @@ shared rows e at gains powers rest order columns old new can told ho hc made =
     front : List ℕ
     front = take (m * e) (powers ++ rest)
 
-    hp : front ≡ powerRows 0 e at
-    hp = buffer-front (m * e) powers rest (ap length told ∙ length-powerRows 0 e at) ∙ told
+    hp : front ≡ powerRows e at
+    hp = buffer-front (m * e) powers rest (ap length told ∙ length-powerRows e at) ∙ told
 
     targets : length (take rows order) ≡ rows
     targets = first-length order ho rows (can .few)
@@ -60,7 +60,7 @@ shared rows e at gains powers rest order columns old new can told ho hc made =
         product-fits e m (length front) (length gains) (length old) (take rows order) (take m columns) some
         (first-inside order ho rows (can .few) e rows (length old) (le-refl rows) (omega (arith, can .room)))
         (omega (arith, first-length columns hc m (can .most))) (omega (arith, can .gains-room, ap (λ (n : ℕ). n * m) targets))
-        (first-inside columns hc m (can .most) e m (length front) (le-refl m) (omega (arith, ap length hp ∙ length-powerRows 0 e at)))
+        (first-inside columns hc m (can .most) e m (length front) (le-refl m) (omega (arith, ap length hp ∙ length-powerRows e at)))
 
 -- ---- together
 
@@ -70,14 +70,14 @@ leads e x node = sum e (λ j. mul (x j) (pow (point node) (suc j)))
 
 -- .. is what the row of powers takes them to
 leading-row : (e : ℕ) (nodes : List ℕ) (x : ℕ → ℕ) (t : ℕ) → t < length nodes
-    → sum e (λ j. mul (cell e (powerRows 0 e nodes) t j) (x j)) ≡ leads e x (getD nodes t 0)
+    → sum e (λ j. mul (cell e (powerRows e nodes) t j) (x j)) ≡ leads e x (getD nodes t 0)
 leading-row e nodes x t ht =
     sum-ext e _ _
     (λ j hj.
-    ap (λ (q : ℕ). mul q (x j)) (powerRows-at 0 e nodes t j ht hj ∙ ap (pow (point (getD nodes t 0))) (zero-add (suc j))) ∙ mul-comm _ (x j))
+    ap (λ (q : ℕ). mul q (x j)) (powerRows-at e nodes t j ht hj) ∙ mul-comm _ (x j))
 
 -- L for what the leading coefficients give at the target, G for what they give at the other nodes and R for the rest: (L + G) + (G + R) = L + R
-pub completed : (e : ℕ) (at targets old leading gains : List ℕ) → old ≡ powerRows 0 e targets → Carries e at targets gains
+pub completed : (e : ℕ) (at targets old leading gains : List ℕ) → old ≡ powerRows e targets → Carries e at targets gains
     → Shared (length targets) e at gains old leading → Completed e at targets leading gains
 unfolding evaluate
 completed e at targets old leading gains hl carry share =
@@ -92,7 +92,7 @@ completed e at targets old leading gains hl carry share =
           sum-ext e _ _
           (λ j hj.
           ap (λ (q : ℕ). mul q (x j)) (share .entries t j ht hj ∙ ap (λ (l : List ℕ). add (cell e l t j) (sum m (λ o. mul (g o) (pow (point (getD at o 0)) (suc j))))) hl)
-          ∙ mul-add-left (cell e (powerRows 0 e targets) t j) _ (x j))
+          ∙ mul-add-left (cell e (powerRows e targets) t j) _ (x j))
           ∙ sum-add e _ _
           ∙ ap₂ add (leading-row e targets x t ht)
           (associate e m g (λ o j. pow (point (getD at o 0)) (suc j)) x

@@ -23,7 +23,8 @@ use Rattle.code.specs.Code.{point}
 use Rattle.kernels.specs.Blocks.{product, Inside, Fits}
 use Rattle.kernels.proofs.Laws.{block-inside}
 use Rattle.kernels.proofs.Arriving.{ordered-inside}
-use Rattle.coefficients.specs.Coefficients.{powerRows}
+use Rattle.coefficients.specs.Coefficients.{pointPowers}
+use Rattle.coefficients.specs.Working.{powerRows}
 
 -- two sides of at most 32 give an area that has room in 1,024 bytes
 pub areas-fit : (m n : ℕ) → m ≤ 32 → n ≤ 32 → m * n ≤ 1024
@@ -88,14 +89,23 @@ module _ (s : ℕ) (h : s < 2 ^ 32) (l : List ℕ) (e : Lists s l) where
 
 -- ---- rows of powers
 
-pub length-powerRows : (e m : ℕ) (nodes : List ℕ) → length (powerRows e m nodes) ≡ length nodes * m
-unfolding powerRows
-length-powerRows e m nodes = length-blocks m (length nodes) _
+-- of the nodes 1, .., n
+pub length-pointPowers : (n m : ℕ) → length (pointPowers n m) ≡ n * m
+unfolding pointPowers
+length-pointPowers n m = length-blocks m n _
 
-pub powerRows-at : (e m : ℕ) (nodes : List ℕ) (i j : ℕ) → i < length nodes → j < m
-    → cell m (powerRows e m nodes) i j ≡ pow (point (getD nodes i 0)) (e + suc j)
+pub pointPowers-at : (n m i j : ℕ) → i < n → j < m → cell m (pointPowers n m) i j ≡ pow (point (suc i)) (suc j)
+unfolding pointPowers
+pointPowers-at n m i j hi hj = cell-blocks m n _ i j hi hj
+
+-- of the nodes of a list
+pub length-powerRows : (m : ℕ) (nodes : List ℕ) → length (powerRows m nodes) ≡ length nodes * m
 unfolding powerRows
-powerRows-at e m nodes i j hi hj = cell-blocks m (length nodes) _ i j hi hj
+length-powerRows m nodes = length-blocks m (length nodes) _
+
+pub powerRows-at : (m : ℕ) (nodes : List ℕ) (i j : ℕ) → i < length nodes → j < m → cell m (powerRows m nodes) i j ≡ pow (point (getD nodes i 0)) (suc j)
+unfolding powerRows
+powerRows-at m nodes i j hi hj = cell-blocks m (length nodes) _ i j hi hj
 
 -- ---- products over blocks
 

@@ -1,23 +1,25 @@
 -- Rows of powers as the code writes them, one after the other. Assumes nothing.
-use mathlib.Core.Path.{_≡_, refl, sym, ap, ap₂, _∙_}
+use mathlib.Core.Path.{_≡_, refl, sym, ap, _∙_, subst}
 use mathlib.Core.Bool.{Bool, true, false, not}
 use mathlib.Core.List.{List}
-use Prim.Native.Nat.{ℕ, zero, suc, _+_, _*_, _%_, _≤_, _<_}
-use native.Mathlib.Nat.{zero-lt-suc, add-suc, mod-lt, mul-le-mul, mul-comm as times-comm}
+use Prim.Native.Nat.{ℕ, zero, suc, _+_, _*_, _≤_, _<_}
+use native.Mathlib.Nat.{zero-lt-suc}
+use native.Mathlib.Numerals.{one-add}
 use native.Mathlib.Omega.{arith}
 use borrow.Author.Tests.{eqb-true, eqb-false, not-true, not-false}
 use lib.Dec.{eqb}
-use lib.ListN.{length, getD, replicate}
-use lib.Seq.{ext-getD}
+use lib.ListN.{length, getD, take, drop, replicate, length-drop}
+use lib.Seq.{getD-take, getD-drop, length-take-le, ext-getD}
 use Rattle.base.specs.Seq.{tabulate, blocks}
 use Rattle.base.proofs.Seq.{length-tabulate, getD-tabulate, tabulate-ext, tabulate-zeros, length-blocks}
 use Rattle.base.specs.Parts.{Blocked}
 use Rattle.base.proofs.Parts.{blocked-all}
 use Rattle.field.specs.Field.{mul, pow}
-use Rattle.field.proofs.Multiplication.{mul-zero-left}
-use Rattle.field.proofs.Exponents.{pow-suc, pow-add, pow-pow, pow-mod}
-use Rattle.coefficients.specs.Coefficients.{powerRows, PowersPost}
-use Rattle.coefficients.specs.Working.{powersFrom, stepsFrom}
+use Rattle.field.proofs.Multiplication.{mul-comm, mul-zero-left}
+use Rattle.field.proofs.Exponents.{pow-suc, pow-add, logs, log-table}
+use Rattle.code.specs.Code.{point}
+use Rattle.coefficients.specs.Coefficients.{pointPowers, PowersPost}
+use Rattle.coefficients.specs.Working.{powersOf, PointExponents}
 
 -- a list that was told by its entries
 pub tabulated : (n : ℕ) (f : ℕ → ℕ) (l : List ℕ) → l ≡ tabulate n f → (length l ≡ n) × ((j : ℕ) → j < n → getD l j 0 ≡ f j)
@@ -26,10 +28,10 @@ tabulated n f l h = (
   λ j hj. ap (λ (k : List ℕ). getD k j 0) h ∙ getD-tabulate n f j hj,
 )
 
-pub row-powers : (c e m : ℕ) (lent new : List ℕ) → length lent ≡ m → new ≡ powersFrom c e (length lent)
-    → (length new ≡ m) × ((j : ℕ) → j < m → getD new j 0 ≡ pow c (e + suc j))
-unfolding powersFrom
-row-powers c e m lent new h q =
+pub row-powers : (c m : ℕ) (lent new : List ℕ) → length lent ≡ m → new ≡ powersOf c (length lent)
+    → (length new ≡ m) × ((j : ℕ) → j < m → getD new j 0 ≡ pow c (suc j))
+unfolding powersOf
+row-powers c m lent new h q =
     let w = tabulated (length lent) _ new q in (
       w .0 ∙ h,
       λ j hj. w .1 j (omega arith),
@@ -38,33 +40,27 @@ row-powers c e m lent new h q =
 -- ---- powers by exponents
 
 -- the powers of 00
-pub powers-of-zero : (e c m : ℕ) → c ≡ 0 → replicate m 0 ≡ powersFrom c e m
-unfolding powersFrom
-powers-of-zero e c m z =
-    sym (tabulate-zeros m) ∙ tabulate-ext m _ _ (λ j hj. sym (ap₂ pow z (add-suc e j) ∙ pow-suc 0 (e + j) ∙ mul-zero-left (pow 0 (e + j))))
+pub powers-of-zero : (c m : ℕ) → c ≡ 0 → replicate m 0 ≡ powersOf c m
+unfolding powersOf
+powers-of-zero c m z =
+    sym (tabulate-zeros m) ∙ tabulate-ext m _ _ (λ j hj. sym (ap (λ (k : ℕ). pow k (suc j)) z ∙ pow-suc 0 j ∙ mul-zero-left (pow 0 j)))
 
--- one more step
-pub step-on : (x l start j : ℕ) → pow 2 x ≡ pow 2 (start + j * l) → pow 2 (x + l) ≡ pow 2 (start + suc j * l)
-step-on x l start j h =
-    let whole : start + j * l + l ≡ start + suc j * l = omega arith in
-    pow-add 2 x l ∙ ap (λ (k : ℕ). mul k (pow 2 l)) h ∙ sym (pow-add 2 (start + j * l) l) ∙ ap (pow 2) whole
+-- one more power of 02^l
+pub step-on : (x l j : ℕ) → pow 2 x ≡ pow (pow 2 l) j → pow 2 (x + l) ≡ pow (pow 2 l) (suc j)
+step-on x l j h = pow-add 2 x l ∙ ap (λ (k : ℕ). mul k (pow 2 l)) h ∙ mul-comm _ (pow 2 l) ∙ sym (pow-suc (pow 2 l) j)
 
--- the exponents of the powers of 02^l
-pub powers-by-steps : (c l e m : ℕ) → pow 2 l ≡ c → stepsFrom l (l * (e % 255) % 255) m ≡ powersFrom c e m
-unfolding powersFrom stepsFrom
-powers-by-steps c l e m h =
-    let start : pow 2 (l * (e % 255) % 255) ≡ pow c e =
-    pow-mod (l * (e % 255)) ∙ ap (pow 2) (times-comm l (e % 255)) ∙ sym (pow-pow 2 (e % 255) l) ∙ ap (λ (k : ℕ). pow k l) (pow-mod e)
-    ∙ pow-pow 2 e l ∙ ap (pow 2) (times-comm e l) ∙ sym (pow-pow 2 l e) ∙ ap (λ (k : ℕ). pow k e) h in
-    let on : (j : ℕ) → pow 2 (suc j * l) ≡ pow c (suc j) =
-    λ j. ap (pow 2) (times-comm (suc j) l) ∙ sym (pow-pow 2 l (suc j)) ∙ ap (λ (k : ℕ). pow k (suc j)) h in
-    tabulate-ext m _ _ (λ j hj. pow-add 2 (l * (e % 255) % 255) (suc j * l) ∙ ap₂ mul start (on j) ∙ sym (pow-add c e (suc j)))
-
-pub steps-small : (l e : ℕ) → l < 255 → l * (e % 255) ≤ 255 * 255
-steps-small l e h =
-    let small : l ≤ 255 = omega arith in
-    let rest : e % 255 ≤ 255 = omega (arith, mod-lt e (zero-lt-suc 254)) in
-    mul-le-mul small rest
+-- the exponents of the points of the nodes 1, .., 32 stand in the list of all exponents
+pub point-exponents : PointExponents (take 32 (drop 1 logs))
+unfolding point
+point-exponents =
+    record {
+      count = length-take-le 32 (drop 1 logs) (omega (arith, length-drop 1 logs, log-table .count));
+      small = λ i h. subst (λ (k : ℕ). k < 255) (sym (at i h)) (log-table .small (suc i) (omega arith) (λ z. omega arith));
+      power = λ i h. ap (pow 2) (at i h) ∙ log-table .power (suc i) (omega arith) (λ z. omega arith);
+    }
+  where
+    at : (i : ℕ) → i < 32 → getD (take 32 (drop 1 logs)) i 0 ≡ getD logs (suc i) 0
+    at i h = getD-take 32 (drop 1 logs) i 0 h ∙ getD-drop 1 logs i 0 ∙ ap (λ (k : ℕ). getD logs k 0) (one-add i)
 
 -- ---- rows
 
@@ -77,18 +73,20 @@ blocked-whole (suc b) n f t old new ho ht s = blocked-all (suc b) n f t old new 
 
 -- ---- what the call of rows of powers leaves
 
+-- too many nodes
+pub many-kept : (n m : ℕ) (out : List ℕ) → 32 < n → PowersPost n m out out
+many-kept n m out many = record { written = λ few room. absurd (omega arith); kept = λ none. refl }
+
 -- no room for just the rows
-pub powers-kept : (e m : ℕ) (nodes out : List ℕ) (fits : Bool) → fits ≡ eqb (length out) (length nodes * m) → not fits ≡ true
-    → PowersPost e m nodes out out
-powers-kept e m nodes out fits r taken =
+pub powers-kept : (n m : ℕ) (out : List ℕ) (fits : Bool) → fits ≡ eqb (length out) (n * m) → not fits ≡ true → PowersPost n m out out
+powers-kept n m out fits r taken =
     record {
-      written = λ room. absurd (eqb-false (length out) (length nodes * m) (sym r ∙ not-true fits taken) room);
+      written = λ few room. absurd (eqb-false (length out) (n * m) (sym r ∙ not-true fits taken) room);
       kept = λ none. refl;
     }
 
-pub has-room : (m : ℕ) (nodes out : List ℕ) (fits : Bool) → fits ≡ eqb (length out) (length nodes * m) → not fits ≡ false
-    → length out ≡ length nodes * m
-has-room m nodes out fits r left = eqb-true (length out) (length nodes * m) (sym r ∙ not-false fits left)
+pub has-room : (n m : ℕ) (out : List ℕ) (fits : Bool) → fits ≡ eqb (length out) (n * m) → not fits ≡ false → length out ≡ n * m
+has-room n m out fits r left = eqb-true (length out) (n * m) (sym r ∙ not-false fits left)
 
-pub powers-made : (e m : ℕ) (nodes old new : List ℕ) → length old ≡ length nodes * m → new ≡ powerRows e m nodes → PowersPost e m nodes old new
-powers-made e m nodes old new room made = record { written = λ same. made; kept = λ none. absurd (none room) }
+pub powers-made : (n m : ℕ) (old new : List ℕ) → n ≤ 32 → length old ≡ n * m → new ≡ pointPowers n m → PowersPost n m old new
+powers-made n m old new few room made = record { written = λ f s. made; kept = λ none. absurd (none (few, room)) }

@@ -16,14 +16,14 @@ pointAt s i = point (getD (listed s) i 0)
 
 -- ---- powers of points
 
--- a row for each node of a list: the powers e + 1, .., e + m of its point
-unfoldable pub powerRows : ℕ → ℕ → List ℕ → List ℕ
-powerRows e m nodes = blocks m (length nodes) (λ i j. pow (point (getD nodes i 0)) (e + suc j))
+-- a row for each of the nodes 1, .., n: the powers 1, .., m of its point; row j is that of node suc j
+unfoldable pub pointPowers : ℕ → ℕ → List ℕ
+pointPowers n m = blocks m n (λ j i. pow (point (suc j)) (suc i))
 
--- new is these rows; where old has no room for just them, nothing is written
-pub record PowersPost (e m : ℕ) (nodes old new : List ℕ) : Type 0 where
-  pub written : length old ≡ length nodes * m → new ≡ powerRows e m nodes
-  pub kept : (length old ≡ length nodes * m → ⊥) → new ≡ old
+-- new is these rows; where n exceeds 32, or old has no room for just them, nothing is written
+pub record PowersPost (n m : ℕ) (old new : List ℕ) : Type 0 where
+  pub written : n ≤ 32 → length old ≡ n * m → new ≡ pointPowers n m
+  pub kept : ((n ≤ 32) × (length old ≡ n * m) → ⊥) → new ≡ old
 
 -- ---- from values to coefficients
 

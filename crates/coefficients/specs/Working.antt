@@ -12,13 +12,19 @@ use Rattle.interpolation.specs.Polynomial.{evaluate, Points}
 use Rattle.interpolation.specs.Lagrange.{coefs, apart, gain}
 use Rattle.code.specs.Code.{point}
 
--- c^(e+1), c^(e+2), .., c^(e+m)
-unfoldable pub powersFrom : ℕ → ℕ → ℕ → List ℕ
-powersFrom c e m = tabulate m (λ j. pow c (e + suc j))
+-- c, c^2, .., c^m
+unfoldable pub powersOf : ℕ → ℕ → List ℕ
+powersOf c m = tabulate m (λ j. pow c (suc j))
 
--- 02^(start + l), 02^(start + 2·l), .., m of them
-unfoldable pub stepsFrom : ℕ → ℕ → ℕ → List ℕ
-stepsFrom l start m = tabulate m (λ j. pow 2 (start + suc j * l))
+-- a row for each node of a list: the powers 1, .., m of its point
+unfoldable pub powerRows : ℕ → List ℕ → List ℕ
+powerRows m nodes = blocks m (length nodes) (λ i j. pow (point (getD nodes i 0)) (suc j))
+
+-- the exponents, as powers of 02, of the points of the nodes 1, .., 32
+pub record PointExponents (t : List ℕ) : Type 0 where
+  pub count : length t ≡ 32
+  pub small : (i : ℕ) → i < 32 → getD t i 0 < 255
+  pub power : (i : ℕ) → i < 32 → pow 2 (getD t i 0) ≡ point (suc i)
 
 -- the point of each node of a list
 unfoldable pub pointsOf : List ℕ → List ℕ

@@ -33,7 +33,7 @@ pub(crate) fn complete(
     requires { ⌜ Completable e (now at) (now targets) (now leading) (now gains) ⌝ }
     ensures { λ _. ⌜ Completed e (now (at .entry)) (now (targets .entry)) (now (leading .exit)) (now (gains .exit)) ⌝ }
 {
-    fill_rows(logs, exps, targets, 0, e, leading);
+    fill_rows(logs, exps, targets, e, leading);
     gain_rows(logs, exps, e, at, targets, gains);
     add_share(logs, exps, targets.len(), e, at, gains, leading);
 }
@@ -327,7 +327,7 @@ fn share_within(
 {
     let m = at.len();
     let area = m * e;
-    fill_rows(logs, exps, at, 0, e, &mut powers[..area]);
+    fill_rows(logs, exps, at, e, &mut powers[..area]);
     let order = in_order();
     let columns = in_order();
     add_product(

@@ -12,14 +12,17 @@ use field::powers;
 use params::NodeSet;
 ghost use Rattle.coefficients.specs.Coefficients.{PowersPost, ReadsPost, ExtendsPost};
 
-// out := a row for each node, the powers e + 1, .., e + m of its point. Where out has no room for just these, nothing is written.
-pub fn power_rows(nodes: &[u8], e: usize, m: usize, out: &mut [u8])
-    ensures { λ _. ⌜ PowersPost e m (now (nodes .entry)) (now (out .entry)) (now (out .exit)) ⌝ }
+// out := a row for each of the nodes 1, .., n: the powers 1, .., m of its point. Where n exceeds 32, or out has no room for just these, nothing is written.
+pub fn power_rows(n: usize, m: usize, out: &mut [u8])
+    ensures { λ _. ⌜ PowersPost n m (now (out .entry)) (now (out .exit)) ⌝ }
 {
-    if !is_product(out.len(), nodes.len(), m) {
+    if 32 < n {
         return;
     }
-    raising::fill_rows(&logs(), &powers(), nodes, e, m, out);
+    if !is_product(out.len(), n, m) {
+        return;
+    }
+    raising::fill_nodes(&powers(), &raising::point_exponents(), n, m, out);
 }
 
 // rows := the coefficients that take the values at the set's nodes to the k leading coefficients of a polynomial with as many coefficients as there are nodes:

@@ -1,55 +1,112 @@
 // Rows of powers.
 use crate::logarithms::exponent;
 use crate::logarithms::reduced;
+use base::wide;
 use blocks::clear;
 use code::point;
 use params::Node;
 ghost use mathlib.Core.Path.{_≡_};
-ghost use Prim.Native.Nat.{_*_, _<_};
+ghost use Prim.Native.Nat.{_*_, _≤_, _<_};
 ghost use lib.ListN.{length};
-ghost use Rattle.field.specs.Field.{LogTable, PowerTable};
-ghost use Rattle.coefficients.specs.Coefficients.{powerRows};
-ghost use Rattle.coefficients.specs.Working.{powersFrom, stepsFrom};
+ghost use Rattle.field.specs.Field.{pow, LogTable, PowerTable};
+ghost use Rattle.coefficients.specs.Coefficients.{pointPowers};
+ghost use Rattle.coefficients.specs.Working.{powersOf, powerRows, PointExponents};
 
-// out := a row for each node, the powers e + 1, .., e + m of its point.
-pub(crate) fn fill_rows(logs: &[u8], exps: &[u8], nodes: &[u8], e: usize, m: usize, out: &mut [u8])
+// out := a row for each of the nodes 1, .., n: the powers 1, .., m of its point. The exponents of the points are lent, so that neither the nodes nor the
+// table of all exponents is wanted.
+pub(crate) fn fill_nodes(exps: &[u8], exponents: &[u8], n: usize, m: usize, out: &mut [u8])
+    requires { ⌜ PowerTable (now exps) ⌝ }
+    requires { ⌜ PointExponents (now exponents) ⌝ }
+    requires { ⌜ (n ≤ 32) × (length (now out) ≡ n * m) ⌝ }
+    ensures { λ _. ⌜ now (out .exit) ≡ pointPowers n m ⌝ }
+{
+    let mut i = 0;
+    while i < n {
+        let at = i * m;
+        let end = at + m;
+        fill_from(exps, wide(exponents[i]), &mut out[at..end]);
+        i += 1;
+    }
+}
+
+// The exponents, as powers of 02, of the points of the nodes 1, .., 32.
+pub(crate) fn point_exponents() -> [u8; 32]
+    ensures { λ r. ⌜ PointExponents r ⌝ }
+{
+    [
+        0,
+        1,
+        25,
+        2,
+        50,
+        26,
+        198,
+        3,
+        223,
+        51,
+        238,
+        27,
+        104,
+        199,
+        75,
+        4,
+        100,
+        224,
+        14,
+        52,
+        141,
+        239,
+        129,
+        28,
+        193,
+        105,
+        248,
+        200,
+        8,
+        76,
+        113,
+        5,
+    ]
+}
+
+// out := a row for each node of a list: the powers 1, .., m of its point.
+pub(crate) fn fill_rows(logs: &[u8], exps: &[u8], nodes: &[u8], m: usize, out: &mut [u8])
     requires { ⌜ LogTable (now logs) ⌝ }
     requires { ⌜ PowerTable (now exps) ⌝ }
     requires { ⌜ length (now out) ≡ length (now nodes) * m ⌝ }
-    ensures { λ _. ⌜ now (out .exit) ≡ powerRows e m (now (nodes .entry)) ⌝ }
+    ensures { λ _. ⌜ now (out .exit) ≡ powerRows m (now (nodes .entry)) ⌝ }
 {
     let count = nodes.len();
     let mut i = 0;
     while i < count {
         let at = i * m;
         let end = at + m;
-        fill_powers(logs, exps, point(Node(nodes[i])).0, e, &mut out[at..end]);
+        fill_powers(logs, exps, point(Node(nodes[i])).0, &mut out[at..end]);
         i += 1;
     }
 }
 
-// out := c^(e+1), c^(e+2), ..
-fn fill_powers(logs: &[u8], exps: &[u8], c: u8, e: usize, out: &mut [u8])
+// out := c, c^2, ..
+fn fill_powers(logs: &[u8], exps: &[u8], c: u8, out: &mut [u8])
     requires { ⌜ LogTable (now logs) ⌝ }
     requires { ⌜ PowerTable (now exps) ⌝ }
-    ensures { λ _. ⌜ now (out .exit) ≡ powersFrom c e (length (now (out .entry))) ⌝ }
+    ensures { λ _. ⌜ now (out .exit) ≡ powersOf c (length (now (out .entry))) ⌝ }
 {
     if c == 0 {
         clear(out);
         return;
     }
-    let l = exponent(logs, c);
-    fill_from(exps, l, (l * (e % 255)) % 255, out);
+    fill_from(exps, exponent(logs, c), out);
 }
 
-// out := 02^(start + l), 02^(start + 2l), ..
-fn fill_from(exps: &[u8], l: usize, start: usize, out: &mut [u8])
+// out := 02^l, 02^(2·l), ..
+fn fill_from(exps: &[u8], l: usize, out: &mut [u8])
     requires { ⌜ PowerTable (now exps) ⌝ }
-    requires { ⌜ (l < 255) × (start < 255) ⌝ }
-    ensures { λ _. ⌜ now (out .exit) ≡ stepsFrom l start (length (now (out .entry))) ⌝ }
+    requires { ⌜ l < 255 ⌝ }
+    ensures { λ _. ⌜ now (out .exit) ≡ powersOf (pow 2 l) (length (now (out .entry))) ⌝ }
 {
     let count = out.len();
-    let mut x = start;
+    let mut x = 0;
     let mut j = 0;
     while j < count {
         x = reduced(x + l);

@@ -22,7 +22,7 @@ in-order-at j h = getD-tabulate 32 (λ j. j) j h
 pub length-places : (s : ℕ) → length (placesOf s) ≡ 32
 length-places s = length-tabulate 32 (λ j. getD (listed s) j 0 - 1)
 
-pub places-at : (s j : ℕ) → j < 32 → getD (placesOf s) j 0 ≡ getD (listed s) j 0 - 1
+places-at : (s j : ℕ) → j < 32 → getD (placesOf s) j 0 ≡ getD (listed s) j 0 - 1
 places-at s j h = getD-tabulate 32 (λ j. getD (listed s) j 0 - 1) j h
 
 -- entry k is the place of a node of the set

@@ -5,11 +5,10 @@ use Prim.Native.Nat.{ℕ, _*_, _≤_}
 use native.Mathlib.Omega.{arith}
 use borrow.Author.Needs.{needs}
 use denote.Ref.{now}
-use lib.ListN.{length, take, drop, replicate}
+use lib.ListN.{length, drop, replicate}
 use lib.Seq.{take-length, length-take-le}
-use Rattle.params.proofs.Sets.{listing-zeros}
 use Rattle.coefficients.proofs.Laws.{buffer-fits, buffer-count}
-use Rattle.access.proofs.PowerBlocks.{all-listed, powers-most, most, area-is, lent-fronts, encoded}
+use Rattle.access.proofs.PowerBlocks.{powers-most, most, area-is, lent-fronts, encoded}
 use Rattle.access.proofs.encoding.encode_within.Statement.{statement}
 use Rattle.access.proofs.encoding.encode_within.Tie as tie
 
@@ -27,33 +26,18 @@ mul-area c =
     let s = c .before .before .before .before in
     omega (arith, area-is (s .args .a) (s .pre .0) (c .working .result) (c .working .ensures), powers-most (s .args .a) (s .pre .0))
 
-outside-requires : tie.Need-outside-requires
-outside-requires c κs = search needs
-
-slice-aggregate-list : tie.Need-slice-aggregate-list
-slice-aggregate-list c = search needs
-
-list-requires : tie.Need-list-requires
-list-requires c κs = search needs
-
-array-share-prefix-nodes : tie.Need-array-share-prefix-nodes
-array-share-prefix-nodes c = search needs
+slice-relend-prefix-power-rows : tie.Need-slice-relend-prefix-power-rows
+slice-relend-prefix-power-rows c = area c
 
 slice-aggregate-power-rows : tie.Need-slice-aggregate-power-rows
-slice-aggregate-power-rows c = sym (length-take-le _ (c .before .before .list .last .1 .0) (array-share-prefix-nodes (c .before)))
-
-slice-relend-prefix-power-rows : tie.Need-slice-relend-prefix-power-rows
-slice-relend-prefix-power-rows c = area (c .before .before .before .before .before)
-
-slice-aggregate-power-rows-2 : tie.Need-slice-aggregate-power-rows-2
-slice-aggregate-power-rows-2 c = sym (length-take-le _ (now (c .before .before .before .before .before .before .before .before .before .before .args .rows)) (slice-relend-prefix-power-rows (c .before)))
+slice-aggregate-power-rows c = sym (length-take-le _ (now (c .before .before .before .before .before .args .rows)) (area (c .before)))
 
 power-rows-requires : tie.Need-power-rows-requires
 power-rows-requires c κs = search needs
 
 -- which fill their part of it
-powered : (c : tie.After-power-rows) → length (c .power-rows .last .1 .1 .1 .0) ≡ c .before .before .before .before .before .before .before .before .before .before .before .args .a .n * c .before .before .before .before .before .before .before .working .result
-powered c = c .power-rows .kept .1 .1 .1 .0 ∙ sym (slice-aggregate-power-rows-2 (c .before))
+powered : (c : tie.After-power-rows) → length (c .power-rows .last .1 .1 .0) ≡ c .before .before .before .before .before .before .args .a .n * c .before .before .working .result
+powered c = c .power-rows .kept .1 .1 .0 ∙ sym (slice-aggregate-power-rows (c .before))
 
 in-order-requires : tie.Need-in-order-requires
 in-order-requires c κs = search needs
@@ -71,11 +55,11 @@ slice-aggregate-add-product : tie.Need-slice-aggregate-add-product
 slice-aggregate-add-product c = sym (length-take-le _ (c .before .before .before .before .before .before .before .in-order .result) (array-share-prefix-order (c .before)))
 
 slice-aggregate-add-product-2 : tie.Need-slice-aggregate-add-product-2
-slice-aggregate-add-product-2 c = sym (ap length (take-length (now (c .before .before .before .before .before .before .before .before .before .before .before .before .before .before .before .before .before .before .before .before .before .before .args .parts))))
+slice-aggregate-add-product-2 c = sym (ap length (take-length (now (c .before .before .before .before .before .before .before .before .before .before .before .before .before .before .before .before .before .args .parts))))
 
 array-share-prefix-columns : tie.Need-array-share-prefix-columns
 array-share-prefix-columns c =
-    let z = c .before .before .before .before .before .before .before .before .before .before .before .before .before .before .before .before .before .before in
+    let z = c .before .before .before .before .before .before .before .before .before .before .before .before .before in
     omega (arith, most (z .before .before .before .before .args .a) (z .before .before .before .before .pre .0) (z .working .result) (z .working .ensures))
 
 slice-aggregate-add-product-3 : tie.Need-slice-aggregate-add-product-3
@@ -83,13 +67,15 @@ slice-aggregate-add-product-3 c = sym (length-take-le _ (c .before .before .befo
 
 slice-reshare-prefix-add-product : tie.Need-slice-reshare-prefix-add-product
 slice-reshare-prefix-add-product c =
-    let s = c .before .before .before .before .before .before .before .before .before .before .before .before .before .before .before .before .before .before .before .before .before .before .before in
-    buffer-fits _ (c .before .before .before .before .before .before .before .before .before .before .before .before .power-rows .last .1 .1 .1 .0) (drop (s .args .a .n * c .before .before .before .before .before .before .before .before .before .before .before .before .before .before .before .before .before .before .before .working .result) (now (s .args .rows))) (powered (c .before .before .before .before .before .before .before .before .before .before .before .before))
+    let r = c .before .before .before .before .before .before .before .before .before .before .before .before in
+    let s = r .before .before .before .before .before .before in
+    buffer-fits _ (r .power-rows .last .1 .1 .0) (drop (s .args .a .n * r .before .before .working .result) (now (s .args .rows))) (powered r)
 
 slice-aggregate-add-product-4 : tie.Need-slice-aggregate-add-product-4
 slice-aggregate-add-product-4 c =
-    let s = c .before .before .before .before .before .before .before .before .before .before .before .before .before .before .before .before .before .before .before .before .before .before .before .before in
-    buffer-count _ (c .before .before .before .before .before .before .before .before .before .before .before .before .before .power-rows .last .1 .1 .1 .0) (drop (s .args .a .n * c .before .before .before .before .before .before .before .before .before .before .before .before .before .before .before .before .before .before .before .before .working .result) (now (s .args .rows))) (powered (c .before .before .before .before .before .before .before .before .before .before .before .before .before))
+    let r = c .before .before .before .before .before .before .before .before .before .before .before .before .before in
+    let s = r .before .before .before .before .before .before in
+    buffer-count _ (r .power-rows .last .1 .1 .0) (drop (s .args .a .n * r .before .before .working .result) (now (s .args .rows))) (powered r)
 
 add-product-requires : tie.Need-add-product-requires
 add-product-requires c κs = search needs
@@ -107,21 +93,14 @@ returns c =
     let k = e .before .before in
     let o = k .before in
     let r = o .before .before .before in
-    let f = r .before .before in
-    let l = f .before .before in
-    let u = l .before .before in
-    let z = u .before in
+    let z = r .before .before in
     let s = z .before .before .before .before in
-    let full = slice-aggregate-power-rows f in
-    let room = sym (slice-aggregate-power-rows-2 (r .before)) ∙ ap (λ (n : ℕ). n * z .working .result) full in
     let q = z .working .result in
-    let last = r .power-rows .last .1 .1 .1 .0 in
+    let last = r .power-rows .last .1 .1 .0 in
     let rest = drop (s .args .a .n * q) (now (s .args .rows)) in
-    encoded (s .args .a) (s .pre .0) q (z .working .ensures) (take (s .args .a .n) (l .list .last .1 .0)) last []
-    (sym full)
-    (all-listed (s .args .a .n) (u .outside .result .0) (s .pre .0 .shape .n-high) (u .outside .ensures) (l .list .last .1 .0)
-    (omega (arith, u .outside .ok)) (listing-zeros _ _ (l .list .ensures)))
-    (r .power-rows .ensures .written room) (now (s .args .parts)) (o .in-order .result) (k .in-order2 .result) _ _ (s .pre .1 .0 .0)
+    encoded (s .args .a) (s .pre .0) q (z .working .ensures) last []
+    (r .power-rows .ensures .written (s .pre .0 .shape .n-high) (sym (slice-aggregate-power-rows (r .before))))
+    (now (s .args .parts)) (o .in-order .result) (k .in-order2 .result) _ _ (s .pre .1 .0 .0)
     (e .clear .ensures ∙ ap (λ (n : ℕ). replicate n 0) (s .pre .1 .0 .1))
     (o .in-order .ensures) (k .in-order2 .ensures)
     (lent-fronts (s .args .a .b) q _ (now (s .args .parts)) last rest _ _ _ _ (powered r) (p .add-product .ensures))
@@ -132,13 +111,8 @@ encode-within-spec =
     (tie.spec
     working-requires
     mul-area
-    outside-requires
-    slice-aggregate-list
-    list-requires
-    array-share-prefix-nodes
-    slice-aggregate-power-rows
     slice-relend-prefix-power-rows
-    slice-aggregate-power-rows-2
+    slice-aggregate-power-rows
     power-rows-requires
     in-order-requires
     in-order-requires-2

@@ -23,8 +23,8 @@ fill-rows-requires : tie.Need-fill-rows-requires
 fill-rows-requires c κs = (c .before .before .before .before .before .before .before .pre .0, (c .before .before .before .before .before .before .before .pre .1 .0, length-take-le _ (now (c .before .before .before .before .before .before .before .args .powers)) (c .before .before .before .before .before .before .before .pre .1 .1 .1)))
 
 -- how many bytes the powers are
-powers-back : (c : tie.After-fill-rows) → length (c .fill-rows .last .1 .1 .1 .1 .1 .0) ≡ length (now (c .before .before .before .before .before .before .before .before .args .at)) * c .before .before .before .before .before .before .before .before .args .e
-powers-back c = ap length (c .fill-rows .ensures) ∙ length-powerRows 0 (c .before .before .before .before .before .before .before .before .args .e) (now (c .before .before .before .before .before .before .before .before .args .at))
+powers-back : (c : tie.After-fill-rows) → length (c .fill-rows .last .1 .1 .1 .1 .0) ≡ length (now (c .before .before .before .before .before .before .before .before .args .at)) * c .before .before .before .before .before .before .before .before .args .e
+powers-back c = ap length (c .fill-rows .ensures) ∙ length-powerRows (c .before .before .before .before .before .before .before .before .args .e) (now (c .before .before .before .before .before .before .before .before .args .at))
 
 in-order-requires : tie.Need-in-order-requires
 in-order-requires c κs = search needs
@@ -39,10 +39,10 @@ slice-aggregate-add-product : tie.Need-slice-aggregate-add-product
 slice-aggregate-add-product c = sym (first-length (c .before .before .before .in-order .result) (c .before .before .before .in-order .ensures) _ (c .before .before .before .before .before .before .before .before .before .before .before .before .before .before .pre .1 .1 .0 .few))
 
 slice-reshare-prefix-add-product : tie.Need-slice-reshare-prefix-add-product
-slice-reshare-prefix-add-product c = buffer-fits _ (c .before .before .before .before .before .before .fill-rows .last .1 .1 .1 .1 .1 .0) _ (powers-back (c .before .before .before .before .before .before))
+slice-reshare-prefix-add-product c = buffer-fits _ (c .before .before .before .before .before .before .fill-rows .last .1 .1 .1 .1 .0) _ (powers-back (c .before .before .before .before .before .before))
 
 slice-aggregate-add-product-2 : tie.Need-slice-aggregate-add-product-2
-slice-aggregate-add-product-2 c = buffer-count _ (c .before .before .before .before .before .before .before .fill-rows .last .1 .1 .1 .1 .1 .0) _ (powers-back (c .before .before .before .before .before .before .before))
+slice-aggregate-add-product-2 c = buffer-count _ (c .before .before .before .before .before .before .before .fill-rows .last .1 .1 .1 .1 .0) _ (powers-back (c .before .before .before .before .before .before .before))
 
 array-share-prefix-columns : tie.Need-array-share-prefix-columns
 array-share-prefix-columns c = search needs
@@ -63,7 +63,7 @@ returns : tie.Need-returns
 returns c =
     let s = c .before .before .before .before .before .before .before .before .before .before .before .before .before .before .before .before .before .before .before in
     let powers = c .before .before .before .before .before .before .before .before .before .before .before .fill-rows in
-    shared (s .args .rows) (s .args .e) (now (s .args .at)) (now (s .args .gains)) (powers .last .1 .1 .1 .1 .1 .0) _ (c .before .before .before .before .before .before .before .before .in-order .result) (c .before .before .before .before .before .before .before .in-order2 .result) _ _
+    shared (s .args .rows) (s .args .e) (now (s .args .at)) (now (s .args .gains)) (powers .last .1 .1 .1 .1 .0) _ (c .before .before .before .before .before .before .before .before .in-order .result) (c .before .before .before .before .before .before .before .in-order2 .result) _ _
     (s .pre .1 .1 .0) (powers .ensures) (c .before .before .before .before .before .before .before .before .in-order .ensures) (c .before .before .before .before .before .before .before .in-order2 .ensures) (c .before .before .add-product .ensures)
 
 pub share-within-spec : {M : Type 1} → statement M

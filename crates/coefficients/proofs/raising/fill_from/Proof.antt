@@ -1,6 +1,6 @@
 -- After j turns x is the exponent of entry j - 1, and the first j entries are written. Assumes nothing.
 use mathlib.Core.Path.{_≡_, sym, ap, _∙_}
-use Prim.Native.Nat.{ℕ, suc, _+_, _*_, _-_, _≤_, _<_}
+use Prim.Native.Nat.{suc, _-_, _≤_, _<_}
 use native.Mathlib.Numerals.{add-one}
 use native.Mathlib.Omega.{arith}
 use borrow.Author.Needs.{needs}
@@ -9,20 +9,20 @@ use lib.ListN.{length}
 use Rattle.base.specs.Parts.{Filled}
 use Rattle.base.proofs.Filled.{filled-none, filled-more, filled-all}
 use Rattle.field.specs.Field.{pow}
-use Rattle.field.proofs.Exponents.{power-at}
-use Rattle.coefficients.specs.Working.{stepsFrom}
+use Rattle.field.proofs.Exponents.{pow-zero, power-at}
+use Rattle.coefficients.specs.Working.{powersOf}
 use Rattle.coefficients.proofs.Rows.{step-on}
 use Rattle.coefficients.proofs.raising.fill_from.Statement.{statement}
 use Rattle.coefficients.proofs.raising.fill_from.Tie as tie
 
 abbrev Inv-loop : tie.InvT-loop
-Inv-loop exps l start out₀ count x₀ j₀ out x j = (j ≤ length out₀) × (x < 255) × (pow 2 x ≡ pow 2 (start + j * l)) × Filled (λ i. pow 2 (start + suc i * l)) j out₀ out
+Inv-loop exps l out₀ count x₀ j₀ out x j = (j ≤ length out₀) × (x < 255) × (pow 2 x ≡ pow (pow 2 l) j) × Filled (λ i. pow (pow 2 l) (suc i)) j out₀ out
 
 abbrev μ-loop : tie.MeasureT-loop
-μ-loop exps l start out₀ count x₀ j₀ out x j = length out₀ - j
+μ-loop exps l out₀ count x₀ j₀ out x j = length out₀ - j
 
 loop-holds : tie.Need-loop-holds Inv-loop μ-loop
-loop-holds c = (omega arith, omega arith, ap (pow 2) (omega arith), filled-none _ _)
+loop-holds c = (omega arith, omega arith, pow-zero 2 ∙ sym (pow-zero _), filled-none _ _)
 
 add-reduced : tie.Need-add-reduced Inv-loop μ-loop
 add-reduced c = search needs
@@ -47,10 +47,10 @@ loop-again c =
     let l = c .before .before .before .loop in
     let s = c .before .before .before .before .before .before in
     let r = c .before .reduced in
-    let next : pow 2 (r .result) ≡ pow 2 (s .args .start + suc (l .j) * s .args .l) = r .ensures .1 ∙ step-on (l .x) (s .args .l) (s .args .start) (l .j) (l .inv .2) in (
+    let next : pow 2 (r .result) ≡ pow (pow 2 (s .args .l)) (suc (l .j)) = r .ensures .1 ∙ step-on (l .x) (s .args .l) (l .j) (l .inv .2) in (
       omega arith,
       r .ensures .0,
-      next ∙ ap (λ (k : ℕ). pow 2 (s .args .start + k * s .args .l)) (sym (add-one (l .j))),
+      next ∙ ap (pow (pow 2 (s .args .l))) (sym (add-one (l .j))),
       filled-more _ (l .j) _ (l .out) _ (omega (arith, l .inv .3 .same)) (power-at (now (s .args .exps)) (s .pre .0) (r .result) (r .ensures .0) ∙ next) (l .inv .3),
     )
 
@@ -58,7 +58,7 @@ same-length : tie.Need-same-length Inv-loop μ-loop
 same-length c = c .before .loop .inv .3 .same
 
 returns : tie.Need-returns Inv-loop μ-loop
-unfolding stepsFrom
+unfolding powersOf
 returns c = filled-all _ _ _ _ (omega arith) (c .before .loop .inv .3)
 
 pub fill-from-spec : {M : Type 1} → statement M

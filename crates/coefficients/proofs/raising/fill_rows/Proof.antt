@@ -9,17 +9,16 @@ use Rattle.base.specs.Parts.{Blocked, partOf}
 use Rattle.base.proofs.Parts.{blocked-none, blocked-more, row-ends, length-partOf}
 use Rattle.field.specs.Field.{pow}
 use Rattle.code.specs.Code.{point}
-use Rattle.coefficients.specs.Coefficients.{powerRows}
-use Rattle.coefficients.specs.Working.{powersFrom}
+use Rattle.coefficients.specs.Working.{powersOf, powerRows}
 use Rattle.coefficients.proofs.Rows.{row-powers, blocked-whole}
 use Rattle.coefficients.proofs.raising.fill_rows.Statement.{statement}
 use Rattle.coefficients.proofs.raising.fill_rows.Tie as tie
 
 abbrev Inv-loop : tie.InvT-loop
-Inv-loop logs exps nodes e m out₀ count i₀ out i = (i ≤ length nodes) × Blocked m (length nodes) (λ k j. pow (point (getD nodes k 0)) (e + suc j)) i out₀ out
+Inv-loop logs exps nodes m out₀ count i₀ out i = (i ≤ length nodes) × Blocked m (length nodes) (λ k j. pow (point (getD nodes k 0)) (suc j)) i out₀ out
 
 abbrev μ-loop : tie.MeasureT-loop
-μ-loop logs exps nodes e m out₀ count i₀ out i = length nodes - i
+μ-loop logs exps nodes m out₀ count i₀ out i = length nodes - i
 
 loop-holds : tie.Need-loop-holds Inv-loop μ-loop
 loop-holds c = (omega arith, blocked-none _ _ _ _)
@@ -33,8 +32,8 @@ mul-at c = omega (arith, row-end c)
 add-end : tie.Need-add-end Inv-loop μ-loop
 add-end c = omega (arith, row-end c)
 
-shared-slice-read-t15 : tie.Need-shared-slice-read-t15 Inv-loop μ-loop
-shared-slice-read-t15 c = search needs
+shared-slice-read-t14 : tie.Need-shared-slice-read-t14 Inv-loop μ-loop
+shared-slice-read-t14 c = search needs
 
 point-requires : tie.Need-point-requires Inv-loop μ-loop
 point-requires c κs = search needs
@@ -62,10 +61,10 @@ loop-again c =
     let s = c .before .before .before .before .before .before .before .before .before .before .before .before in
     let l = c .before .before .before .before .before .before .before .loop in
     let part = partOf (s .args .m) (l .i) (l .out) in
-    let r = row-powers (point (getD (now (s .args .nodes)) (l .i) 0)) (s .args .e) (s .args .m) part (c .before .before .fill-powers .last .1 .1 .1 .1 .0)
+    let r = row-powers (point (getD (now (s .args .nodes)) (l .i) 0)) (s .args .m) part (c .before .before .fill-powers .last .1 .1 .1 .0)
     (length-partOf (s .args .m) (l .i) (l .out) (omega (arith, row-end (c .before .before .before .before .before .before), l .inv .1 .same)))
-    (c .before .before .fill-powers .ensures ∙ ap (λ (x : ℕ). powersFrom x (s .args .e) (length part)) (c .before .before .before .before .point .ensures)) in
-    (omega arith, blocked-more _ _ _ (l .i) _ (l .out) (c .before .before .fill-powers .last .1 .1 .1 .1 .0) (omega arith) (s .pre .1 .1) (r .0) (r .1) (l .inv .1))
+    (c .before .before .fill-powers .ensures ∙ ap (λ (x : ℕ). powersOf x (length part)) (c .before .before .before .before .point .ensures)) in
+    (omega arith, blocked-more _ _ _ (l .i) _ (l .out) (c .before .before .fill-powers .last .1 .1 .1 .0) (omega arith) (s .pre .1 .1) (r .0) (r .1) (l .inv .1))
 
 same-length : tie.Need-same-length Inv-loop μ-loop
 same-length c = c .before .loop .inv .1 .same
@@ -83,7 +82,7 @@ fill-rows-spec =
     loop-holds
     mul-at
     add-end
-    shared-slice-read-t15
+    shared-slice-read-t14
     point-requires
     sub-fill-powers
     part-fill-powers-start
