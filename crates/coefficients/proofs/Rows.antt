@@ -19,7 +19,7 @@ use Rattle.field.proofs.Multiplication.{mul-comm, mul-zero-left}
 use Rattle.field.proofs.Exponents.{pow-suc, pow-add, logs, log-table}
 use Rattle.code.specs.Code.{point}
 use Rattle.coefficients.specs.Coefficients.{pointPowers, PowersPost}
-use Rattle.coefficients.specs.Working.{powersOf, PointExponents}
+use Rattle.coefficients.specs.Working.{powersOf, LowExponents}
 
 -- a list that was told by its entries
 pub tabulated : (n : ℕ) (f : ℕ → ℕ) (l : List ℕ) → l ≡ tabulate n f → (length l ≡ n) × ((j : ℕ) → j < n → getD l j 0 ≡ f j)
@@ -49,18 +49,19 @@ powers-of-zero c m z =
 pub step-on : (x l j : ℕ) → pow 2 x ≡ pow (pow 2 l) j → pow 2 (x + l) ≡ pow (pow 2 l) (suc j)
 step-on x l j h = pow-add 2 x l ∙ ap (λ (k : ℕ). mul k (pow 2 l)) h ∙ mul-comm _ (pow 2 l) ∙ sym (pow-suc (pow 2 l) j)
 
--- the exponents of the points of the nodes 1, .., 32 stand in the list of all exponents
-pub point-exponents : PointExponents (take 32 (drop 1 logs))
-unfolding point
-point-exponents =
+-- the exponents of the low bytes stand first in the list of all
+pub low-exponents : LowExponents (take 33 logs)
+low-exponents =
     record {
-      count = length-take-le 32 (drop 1 logs) (omega (arith, length-drop 1 logs, log-table .count));
-      small = λ i h. subst (λ (k : ℕ). k < 255) (sym (at i h)) (log-table .small (suc i) (omega arith) (λ z. omega arith));
-      power = λ i h. ap (pow 2) (at i h) ∙ log-table .power (suc i) (omega arith) (λ z. omega arith);
+      count = length-take-le 33 logs (omega (arith, log-table .count));
+      small = λ a h n. subst (λ (k : ℕ). k < 255) (sym (getD-take 33 logs a 0 h)) (log-table .small a (omega arith) n);
+      power = λ a h n. ap (pow 2) (getD-take 33 logs a 0 h) ∙ log-table .power a (omega arith) n;
     }
-  where
-    at : (i : ℕ) → i < 32 → getD (take 32 (drop 1 logs)) i 0 ≡ getD logs (suc i) 0
-    at i h = getD-take 32 (drop 1 logs) i 0 h ∙ getD-drop 1 logs i 0 ∙ ap (λ (k : ℕ). getD logs k 0) (one-add i)
+
+-- the points of the nodes 1, .., 32 are such bytes
+pub point-low : (i : ℕ) → i < 32 → (point (suc i) < 33) × (point (suc i) ≡ 0 → ⊥)
+unfolding point
+point-low i h = (omega arith, λ z. omega arith)
 
 -- ---- rows
 

@@ -20,11 +20,11 @@ powersOf c m = tabulate m (λ j. pow c (suc j))
 unfoldable pub powerRows : ℕ → List ℕ → List ℕ
 powerRows m nodes = blocks m (length nodes) (λ i j. pow (point (getD nodes i 0)) (suc j))
 
--- the exponents, as powers of 02, of the points of the nodes 1, .., 32
-pub record PointExponents (t : List ℕ) : Type 0 where
-  pub count : length t ≡ 32
-  pub small : (i : ℕ) → i < 32 → getD t i 0 < 255
-  pub power : (i : ℕ) → i < 32 → pow 2 (getD t i 0) ≡ point (suc i)
+-- the exponents, as powers of 02, of the bytes up to 32
+pub record LowExponents (t : List ℕ) : Type 0 where
+  pub count : length t ≡ 33
+  pub small : (a : ℕ) → a < 33 → (a ≡ 0 → ⊥) → getD t a 0 < 255
+  pub power : (a : ℕ) → a < 33 → (a ≡ 0 → ⊥) → pow 2 (getD t a 0) ≡ a
 
 -- the point of each node of a list
 unfoldable pub pointsOf : List ℕ → List ℕ

@@ -22,7 +22,7 @@ pub fn power_rows(n: usize, m: usize, out: &mut [u8])
     if !is_product(out.len(), n, m) {
         return;
     }
-    raising::fill_nodes(&powers(), &raising::point_exponents(), n, m, out);
+    raising::fill_nodes(&powers(), &raising::low_exponents(), n, m, out);
 }
 
 // rows := the coefficients that take the values at the set's nodes to the k leading coefficients of a polynomial with as many coefficients as there are nodes:

@@ -10,13 +10,13 @@ ghost use Prim.Native.Nat.{_*_, _≤_, _<_};
 ghost use lib.ListN.{length};
 ghost use Rattle.field.specs.Field.{pow, LogTable, PowerTable};
 ghost use Rattle.coefficients.specs.Coefficients.{pointPowers};
-ghost use Rattle.coefficients.specs.Working.{powersOf, powerRows, PointExponents};
+ghost use Rattle.coefficients.specs.Working.{powersOf, powerRows, LowExponents};
 
-// out := a row for each of the nodes 1, .., n: the powers 1, .., m of its point. The exponents of the points are lent, so that neither the nodes nor the
-// table of all exponents is wanted.
-pub(crate) fn fill_nodes(exps: &[u8], exponents: &[u8], n: usize, m: usize, out: &mut [u8])
+// out := a row for each of the nodes 1, .., n: the powers 1, .., m of its point. The points of these nodes are low bytes; the exponents of these are lent, so that
+// the table of all is not wanted.
+pub(crate) fn fill_nodes(exps: &[u8], low: &[u8], n: usize, m: usize, out: &mut [u8])
     requires { ⌜ PowerTable (now exps) ⌝ }
-    requires { ⌜ PointExponents (now exponents) ⌝ }
+    requires { ⌜ LowExponents (now low) ⌝ }
     requires { ⌜ (n ≤ 32) × (length (now out) ≡ n * m) ⌝ }
     ensures { λ _. ⌜ now (out .exit) ≡ pointPowers n m ⌝ }
 {
@@ -24,16 +24,18 @@ pub(crate) fn fill_nodes(exps: &[u8], exponents: &[u8], n: usize, m: usize, out:
     while i < n {
         let at = i * m;
         let end = at + m;
-        fill_from(exps, wide(exponents[i]), &mut out[at..end]);
+        let c = point(Node((i + 1) as u8)).0;
+        fill_from(exps, wide(low[wide(c)]), &mut out[at..end]);
         i += 1;
     }
 }
 
-// The exponents, as powers of 02, of the points of the nodes 1, .., 32.
-pub(crate) fn point_exponents() -> [u8; 32]
-    ensures { λ r. ⌜ PointExponents r ⌝ }
+// The exponents, as powers of 02, of the bytes up to 32. The entry of 00, which is no power, is not used.
+pub(crate) fn low_exponents() -> [u8; 33]
+    ensures { λ r. ⌜ LowExponents r ⌝ }
 {
     [
+        0,
         0,
         1,
         25,

@@ -12,7 +12,7 @@ use crate::logarithms::reduced;
 use code::point;
 use params::Node;
 ghost use mathlib.Core.Path.{_≡_};
-ghost use Prim.Native.Nat.{ℕ, _+_, _*_, _≤_, _<_};
+ghost use Prim.Native.Nat.{ℕ, _<_};
 ghost use lib.ListN.{length, getD};
 ghost use Rattle.field.specs.Field.{pow, PowerTable, LogTable};
 ghost use Rattle.interpolation.specs.Polynomial.{Points};

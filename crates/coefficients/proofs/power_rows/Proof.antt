@@ -25,8 +25,8 @@ powers-requires c κs = search needs
 slice-aggregate-fill-nodes : tie.Need-slice-aggregate-fill-nodes
 slice-aggregate-fill-nodes c = search needs
 
-point-exponents-requires : tie.Need-point-exponents-requires
-point-exponents-requires c κs = search needs
+low-exponents-requires : tie.Need-low-exponents-requires
+low-exponents-requires c κs = search needs
 
 slice-aggregate-fill-nodes-2 : tie.Need-slice-aggregate-fill-nodes-2
 slice-aggregate-fill-nodes-2 c = search needs
@@ -38,7 +38,7 @@ roomy c =
     (c .before .before .if1 .left, has-room (s .n) (s .m) (now (s .out)) (c .before .is-product .result) (c .before .is-product .ensures) (c .if2 .left))
 
 fill-nodes-requires : tie.Need-fill-nodes-requires
-fill-nodes-requires c κs = (c .before .before .before .before .powers .ensures, (c .before .before .point-exponents .ensures, roomy (c .before .before .before .before .before)))
+fill-nodes-requires c κs = (c .before .before .before .before .powers .ensures, (c .before .before .low-exponents .ensures, roomy (c .before .before .before .before .before)))
 
 same-length : tie.Need-same-length
 same-length c = search needs
@@ -58,7 +58,7 @@ power-rows-spec =
     returns-2
     powers-requires
     slice-aggregate-fill-nodes
-    point-exponents-requires
+    low-exponents-requires
     slice-aggregate-fill-nodes-2
     fill-nodes-requires
     same-length
