@@ -4,12 +4,11 @@ use mathlib.Core.Bool.{Bool, true, false, not}
 use mathlib.Core.List.{List}
 use Prim.Native.Nat.{ℕ, zero, suc, _+_, _*_, _≤_, _<_}
 use native.Mathlib.Nat.{zero-lt-suc}
-use native.Mathlib.Numerals.{one-add}
 use native.Mathlib.Omega.{arith}
 use borrow.Author.Tests.{eqb-true, eqb-false, not-true, not-false}
 use lib.Dec.{eqb}
-use lib.ListN.{length, getD, take, drop, replicate, length-drop}
-use lib.Seq.{getD-take, getD-drop, length-take-le, ext-getD}
+use lib.ListN.{length, getD, take, replicate}
+use lib.Seq.{getD-take, length-take-le, ext-getD}
 use Rattle.base.specs.Seq.{tabulate, blocks}
 use Rattle.base.proofs.Seq.{length-tabulate, getD-tabulate, tabulate-ext, tabulate-zeros, length-blocks}
 use Rattle.base.specs.Parts.{Blocked}

@@ -7,12 +7,12 @@ use Prim.Native.Nat.{ℕ, zero, suc, _+_, _-_, _*_, _^_, _≤_, _<_, min}
 use native.Mathlib.Nat.{suc-mul, zero-mul, mul-le-mul-right, not-suc-le-zero, le-of-suc-le-suc}
 use native.Mathlib.Omega.{arith}
 use borrow.Rule.Slice.PartMut.{putMid, same-len-mid}
-use lib.ListN.{length, getD, replicate, length-replicate, getD-replicate}
+use lib.ListN.{length, getD, replicate, length-replicate, getD-replicate, List·getD-eq-default}
 use Rattle.base.specs.Seq.{cell}
 use Rattle.base.proofs.Cases.{lt-or, eq-or}
 use Rattle.base.specs.Parts.{partOf, putBlock}
 use Rattle.base.proofs.Parts.{put-before, put-in, length-partOf, partOf-at, putBlock-here, putBlock-other, putBlock-length}
-use Rattle.base.proofs.Seq.{tabulate-getD, getD-tabulate-past, tabulate-ext, zeros-at}
+use Rattle.base.proofs.Seq.{tabulate-ext, zeros-at}
 use Rattle.field.specs.Field.{IsByte, Bytes, add, mul}
 use Rattle.field.specs.FiniteSum.{sum}
 use Rattle.field.proofs.Addition.{add-comm, add-zero-left}
@@ -40,10 +40,6 @@ pub tile-byte : (b at : ℕ) (src places : List ℕ) → Bytes src → (k p : �
 unfolding cell
 tile-byte b at src places bytes k p = bytes (getD places k 0 * b + (at + p))
 
--- past the end stands 0
-past : (l : List ℕ) (p : ℕ) → length l ≤ p → getD l p 0 ≡ 0
-past l p h = ap (λ (m : List ℕ). getD m p 0) (sym (tabulate-getD (length l) l refl)) ∙ getD-tabulate-past (length l) _ p h
-
 -- a copy of ys with zeros behind it
 pub copy-at : (n : ℕ) (ys copy : List ℕ) → length ys ≤ n → copy ≡ over (replicate n 0) ys → (p : ℕ) → getD copy p 0 ≡ getD ys p 0
 copy-at n ys copy h e p =
@@ -51,8 +47,8 @@ copy-at n ys copy h e p =
     ∙ ⊎-elim (λ (lt : p < length ys). over-at (replicate n 0) ys p (omega (arith, size)) lt)
     (λ (le : length ys ≤ p). ⊎-elim
     (λ (lt : p < n). over-past (replicate n 0) ys p (omega (arith, size)) le ∙ zeros-at n p)
-    (λ (ge : n ≤ p). past (over (replicate n 0) ys) p (omega (arith, size, over-length (replicate n 0) ys)))
-    (lt-or p n) ∙ sym (past ys p le))
+    (λ (ge : n ≤ p). List·getD-eq-default (over (replicate n 0) ys) 0 (omega (arith, size, over-length (replicate n 0) ys)))
+    (lt-or p n) ∙ sym (List·getD-eq-default ys 0 le))
     (lt-or p (length ys))
   where
     size : length (replicate {A = ℕ} n 0) ≡ n
