@@ -1,11 +1,11 @@
 -- The rows that take values to leading coefficients, applied to the blocks read, give the message of the one pair that gives these blocks: at each byte
 -- place the blocks are the values of the pair's polynomial. Assumes nothing.
 use mathlib.Core.Path.{_≡_, sym, ap, _∙_, subst}
-use mathlib.Core.List.{List, _++_}
+use mathlib.Core.List.{List}
 use Prim.Native.Nat.{ℕ, suc, _*_, _^_, _≤_, _<_}
 use native.Mathlib.Nat.{le-refl}
 use native.Mathlib.Omega.{arith}
-use lib.ListN.{length, getD, take, replicate, length-append, length-replicate}
+use lib.ListN.{length, getD, take, replicate, length-replicate}
 use Rattle.base.specs.Seq.{cell}
 use Rattle.base.proofs.Seq.{cells-ext}
 use Rattle.field.specs.Field.{Bytes, mul}
@@ -26,7 +26,7 @@ use Rattle.code.proofs.Pairs.{from-reads, pair-exists}
 use Rattle.kernels.specs.Blocks.{Fits, Added}
 use Rattle.kernels.proofs.Arriving.{ordered-product}
 use Rattle.coefficients.specs.Coefficients.{pointAt, Reads}
-use Rattle.coefficients.proofs.Laws.{cell-front, product-fits, first-length, first-at, first-inside, placed-length, placed-inside, product-placed}
+use Rattle.coefficients.proofs.Laws.{product-fits, first-length, first-at, first-inside, placed-length, placed-inside, product-placed}
 
 module _ (a : Params) (from out : ℕ) (word : from < 2 ^ 32) (codeword : List ℕ) (ok : DecodeAccepted a (length codeword) out from) where
   module _ (x v : List ℕ) (gives : Gives a x v (has from) codeword) where
@@ -51,28 +51,26 @@ module _ (a : Params) (from out : ℕ) (word : from < 2 ^ 32) (codeword : List �
         (λ j. cell-byte (a .b) x j p (gives .pair .message .bytes)) (λ j. cell-byte (a .b) v j p (gives .pair .slack .bytes)) j hj
 
   -- q is the set's size as the code counts it
-  pub decoded : (q : ℕ) (places order rows rest old new : List ℕ) → old ≡ replicate out 0 → Bytes codeword → q ≡ size from → places ≡ placesOf from → order ≡ inOrder
-      → length rows ≡ a .k * q → Reads (a .k) from rows → Added (a .b) q codeword (take (a .k) order) (take q places) (rows ++ rest) old new → Decoded a codeword from new
-  decoded q places order rows rest old new cleared bytes hq hp ordered full reads made =
+  pub decoded : (q : ℕ) (places order rows old new : List ℕ) → old ≡ replicate out 0 → Bytes codeword → q ≡ size from → places ≡ placesOf from → order ≡ inOrder
+      → length rows ≡ a .k * q → Reads (a .k) from rows → Added (a .b) q codeword (take (a .k) order) (take q places) rows old new → Decoded a codeword from new
+  decoded q places order rows old new cleared bytes hq hp ordered full reads made =
       let v = ok .valid in
       let few : a .k ≤ 32 = omega (arith, ok .from-size, v .shape .k-le-r, size-most from word) in
       let targets : length (take (a .k) order) ≡ a .k = first-length order ordered (a .k) few in
       let room : length old ≡ a .k * a .b = ap length cleared ∙ length-replicate {A = ℕ} out 0 ∙ ok .out-length in
-      let fits : Fits (a .b) q (take (a .k) order) (take q places) (length codeword) (length (rows ++ rest)) (length old) =
-      product-fits (a .b) q (length codeword) (length (rows ++ rest)) (length old) (take (a .k) order) (take q places) (v .b-low)
+      let fits : Fits (a .b) q (take (a .k) order) (take q places) (length codeword) (length rows) (length old) =
+      product-fits (a .b) q (length codeword) (length rows) (length old) (take (a .k) order) (take q places) (v .b-low)
       (first-inside order ordered (a .k) few (a .b) (a .k) (length old) (le-refl (a .k)) (omega (arith, room))) (omega (arith, placed-length from word places hp q hq))
-      (omega (arith, ap (λ (m : ℕ). m * q) targets, full, length-append rows rest))
+      (omega (arith, ap (λ (m : ℕ). m * q) targets, full))
       (placed-inside from word places hp q hq (a .b) (a .n) (length codeword) (within-has (a .n) from word .0 (ok .from-within))
       (omega (arith, ok .codeword-length))) in
       let g = pair-exists a v (has from) (from-reads a from v (ok .from-within) (ok .from-size)) codeword bytes in
       let same : new ≡ g .0 =
       cells-ext (a .b) (a .k) new (g .0) (v .b-low) (made .same ∙ room) (g .2 .pair .message .length-is)
       (λ j p hj hb.
-      ordered-product (take (a .k) order) (λ i hi. first-at order ordered (a .k) few i (omega (arith, targets))) (a .b) q codeword (take q places) (rows ++ rest) old new
+      ordered-product (take (a .k) order) (λ i hi. first-at order ordered (a .k) few i (omega (arith, targets))) (a .b) q codeword (take q places) rows old new
       fits made out cleared j p (omega (arith, targets)) hb
-      ∙ product-placed from word places hp q hq (a .b) q codeword (rows ++ rest) j p
-      ∙ sum-ext q _ _
-      (λ o ho. ap (λ (y : ℕ). mul y (cell (a .b) codeword (getD (placesOf from) o 0) p)) (cell-front q (a .k) rows rest full j o hj ho))
+      ∙ product-placed from word places hp q hq (a .b) q codeword rows j p
       ∙ ap (λ (m : ℕ). sum m (λ o. mul (cell m rows j o) (cell (a .b) codeword (getD (placesOf from) o 0) p))) hq
       ∙ part-read (g .0) (g .1) (g .2) rows reads j p hj hb) in
       record { slack = g .1; gives = subst (λ (x : List ℕ). Gives a x (g .1) (has from) codeword) (sym same) (g .2) }

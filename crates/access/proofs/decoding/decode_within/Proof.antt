@@ -1,6 +1,5 @@
 -- The rows take the blocks read to the message. Assumes nothing.
 use mathlib.Core.Path.{_≡_, sym, ap, _∙_, subst⁻¹}
-use mathlib.Core.List.{[]}
 use Prim.Native.Nat.{ℕ, _*_, _^_, _≤_, _<_}
 use native.Mathlib.Omega.{arith}
 use borrow.Author.Needs.{needs}
@@ -116,7 +115,7 @@ returns c =
     let few : s .args .a .k ≤ size (s .args .from .0) = omega (arith, s .pre .0 .from-size, s .pre .0 .valid .shape .k-le-r) in
     let room = sym (slice-aggregate-reading-rows (r .before)) ∙ ap (λ (n : ℕ). s .args .a .k * n) (z .size .ensures) in
     decoded (s .args .a) (s .args .from .0) _ (word s) (now (s .args .codeword)) (s .pre .0) q (l .places-of .last .1 .0)
-    (o .in-order .result) rows [] _ _ (e .clear .ensures) (λ i. omega (arith, z .before .before .before .shared-slice-known .given i))
+    (o .in-order .result) rows _ _ (e .clear .ensures) (λ i. omega (arith, z .before .before .before .shared-slice-known .given i))
     (z .size .ensures) (places l) (o .in-order .ensures) (filled r) (r .reading-rows .ensures .written (record { few = few; room = room }))
     (lent-fronts (s .args .a .b) q _ (now (s .args .codeword)) rows rest _ _ _ _ (filled r) (p .add-product .ensures))
 

@@ -1,6 +1,5 @@
 -- The rows of powers take message and slack, side by side, to the blocks. Assumes nothing.
 use mathlib.Core.Path.{_≡_, sym, ap, _∙_}
-use mathlib.Core.List.{[]}
 use Prim.Native.Nat.{ℕ, _*_, _≤_}
 use native.Mathlib.Omega.{arith}
 use borrow.Author.Needs.{needs}
@@ -98,7 +97,7 @@ returns c =
     let q = z .working .result in
     let last = r .power-rows .last .1 .1 .0 in
     let rest = drop (s .args .a .n * q) (now (s .args .rows)) in
-    encoded (s .args .a) (s .pre .0) q (z .working .ensures) last []
+    encoded (s .args .a) (s .pre .0) q (z .working .ensures) last
     (r .power-rows .ensures .written (s .pre .0 .shape .n-high) (sym (slice-aggregate-power-rows (r .before))))
     (now (s .args .parts)) (o .in-order .result) (k .in-order2 .result) _ _ (s .pre .1 .0 .0)
     (e .clear .ensures ∙ ap (λ (n : ℕ). replicate n 0) (s .pre .1 .0 .1))
