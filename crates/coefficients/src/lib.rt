@@ -57,21 +57,19 @@ pub fn completion_rows(
 )
     ensures { λ _. ⌜ ExtendsPost e (at .0) (targets .0) (now (leading .entry)) (now (gains .entry)) (now (leading .exit)) (now (gains .exit)) ⌝ }
 {
-    let m = at.size();
-    let count = targets.size();
     if 32 < e {
         return;
     }
+    let mut known = [0u8; 32];
+    let m = at.list(&mut known);
+    let mut wanted = [0u8; 32];
+    let count = targets.list(&mut wanted);
     if leading.len() != count * e {
         return;
     }
     if gains.len() != count * m {
         return;
     }
-    let mut known = [0u8; 32];
-    at.list(&mut known);
-    let mut wanted = [0u8; 32];
-    targets.list(&mut wanted);
     completing::complete(
         &logs(),
         &powers(),
