@@ -1,11 +1,10 @@
 -- The powers of the nodes' points, applied to message and slack side by side, give document 01's blocks. Assumes nothing.
-use mathlib.Core.Path.{_≡_, sym, ap, _∙_, subst}
-use mathlib.Core.List.{List, _++_}
+use mathlib.Core.Path.{_≡_, sym, ap, _∙_}
+use mathlib.Core.List.{List}
 use Prim.Native.Nat.{ℕ, suc, _-_, _*_, _^_, min, _≤_, _<_}
 use native.Mathlib.Nat.{le-refl}
 use native.Mathlib.Omega.{arith}
 use lib.ListN.{length, take, drop, replicate, length-replicate}
-use lib.Seq.{take-length}
 use Rattle.base.specs.Seq.{cell}
 use Rattle.field.specs.Field.{add, mul, pow}
 use Rattle.field.specs.FiniteSum.{sum}
@@ -25,16 +24,7 @@ use Rattle.code.specs.Calls.{Encoded}
 use Rattle.kernels.specs.Blocks.{Fits, Added}
 use Rattle.kernels.proofs.Arriving.{ordered-product}
 use Rattle.coefficients.specs.Coefficients.{pointPowers}
-use Rattle.coefficients.proofs.Laws.{areas-fit, buffer-front, length-pointPowers, pointPowers-at, product-fits, first-length, first-at, first-inside, product-first}
-
--- ---- slices lent anew
-
--- the whole of the parts, and the rows at the front of their buffer
-pub lent-fronts : (b q n : ℕ) (parts rows rest targets places old new : List ℕ) → length rows ≡ n
-    → Added b q (take (length parts) parts) targets places (take n (rows ++ rest)) old new → Added b q parts targets places rows old new
-lent-fronts b q n parts rows rest targets places old new full made =
-    subst (λ (l : List ℕ). Added b q parts targets places l old new) (buffer-front n rows rest full)
-    (subst (λ (l : List ℕ). Added b q l targets places (take n (rows ++ rest)) old new) (take-length parts) made)
+use Rattle.coefficients.proofs.Laws.{areas-fit, length-pointPowers, pointPowers-at, product-fits, first-length, first-at, first-inside, product-first}
 
 -- ---- the powers
 
@@ -53,13 +43,13 @@ module _ (a : Params) (ok : Valid a) (q : ℕ) (count-is : q ≡ min (working a)
   pub area-is : a .n * q ≡ a .n * working a
   area-is = ap (λ (m : ℕ). a .n * m) all-parts
 
-  -- the blocks
+  -- the blocks, from the powers
   module _ (rows : List ℕ) (powers : rows ≡ pointPowers (a .n) q) where
-    full : length rows ≡ a .n * q
-    full = ap length powers ∙ length-pointPowers (a .n) q
-
     power-cell : (i j : ℕ) → i < a .n → j < q → cell q rows i j ≡ pow (point (suc i)) (suc j)
     power-cell i j hi hj = ap (λ (l : List ℕ). cell q l i j) powers ∙ pointPowers-at (a .n) q i j hi hj
+
+    enough : a .n * q ≤ length rows
+    enough = omega (arith, ap length powers ∙ length-pointPowers (a .n) q)
 
     -- a block of the parts: all of them are leading coefficients
     whole-block : (parts : List ℕ) (i p : ℕ) → p < a .b
@@ -81,7 +71,7 @@ module _ (a : Params) (ok : Valid a) (q : ℕ) (count-is : q ≡ min (working a)
         let fits : Fits (a .b) q (take (a .n) order) (take q columns) (length parts) (length rows) (length old) =
         product-fits (a .b) q (length parts) (length rows) (length old) (take (a .n) order) (take q columns) (ok .b-low)
         (first-inside order ordered (a .n) few (a .b) (a .n) (length old) (le-refl (a .n)) (omega (arith, room)))
-        (omega (arith, first-length columns across q most)) (omega (arith, full, ap (λ (m : ℕ). m * q) targets))
+        (omega (arith, first-length columns across q most)) (omega (arith, enough, ap (λ (m : ℕ). m * q) targets))
         (first-inside columns across q most (a .b) q (length parts) (le-refl q) (omega (arith, all, ap (λ (m : ℕ). m * a .b) all-parts))) in
         record {
           length-is = made .same ∙ room;

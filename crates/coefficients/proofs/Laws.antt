@@ -1,5 +1,5 @@
 -- A set's list of nodes and rows of powers, by their lengths and entries; and products over blocks at the places of nodes. Assumes nothing.
-use mathlib.Core.Path.{_≡_, sym, ap, ap₂, _∙_, subst⁻¹}
+use mathlib.Core.Path.{_≡_, sym, ap, ap₂, _∙_, subst, subst⁻¹}
 use mathlib.Core.Bool.{true}
 use mathlib.Core.List.{List, _++_}
 use mathlib.Core.Logic.{⊎-elim}
@@ -7,7 +7,7 @@ use Prim.Native.Nat.{ℕ, suc, _+_, _-_, _*_, _^_, _≤_, _<_}
 use native.Mathlib.Nat.{mul-le-mul}
 use native.Mathlib.Omega.{arith}
 use lib.ListN.{length, getD, take, replicate, length-append, length-replicate, List·getD-append, List·getD-eq-default}
-use lib.Seq.{take-at, getD-take, getD-append-add, length-take-le}
+use lib.Seq.{take-at, take-length, getD-take, getD-append-add, length-take-le}
 use Rattle.base.specs.Seq.{cell}
 use Rattle.base.proofs.Cases.{lt-or}
 use Rattle.base.proofs.Seq.{length-blocks, cell-blocks, zeros-at}
@@ -20,7 +20,7 @@ use Rattle.params.specs.Nodes.{has, size, listed, inOrder, placesOf}
 use Rattle.params.proofs.Sets.{size-most, length-listed}
 use Rattle.params.proofs.Placing.{length-in-order, in-order-at, length-places, place-of}
 use Rattle.code.specs.Code.{point}
-use Rattle.kernels.specs.Blocks.{product, Inside, Fits}
+use Rattle.kernels.specs.Blocks.{product, Inside, Fits, Added}
 use Rattle.kernels.proofs.Laws.{block-inside}
 use Rattle.kernels.proofs.Arriving.{ordered-inside}
 use Rattle.coefficients.specs.Coefficients.{pointPowers}
@@ -119,6 +119,13 @@ product-fits b stride src coeffs out targets places some target narrow enough bl
       row = λ i hi. omega (arith, row-ends (length targets) i stride coeffs hi enough);
       block = block;
     }
+
+-- the blocks are lent anew, whole, and so are the rows, at the front of their buffer
+pub lent-anew : (b q n : ℕ) (src rows rest targets places old new : List ℕ) → length rows ≡ n
+    → Added b q (take (length src) src) targets places (take n (rows ++ rest)) old new → Added b q src targets places rows old new
+lent-anew b q n src rows rest targets places old new full made =
+    subst (λ (l : List ℕ). Added b q src targets places l old new) (buffer-front n rows rest full)
+    (subst (λ (l : List ℕ). Added b q l targets places (take n (rows ++ rest)) old new) (take-length src) made)
 
 -- ---- the first blocks in order
 

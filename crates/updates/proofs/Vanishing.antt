@@ -1,6 +1,6 @@
 -- The rows that extend a change, applied to it, give what it makes of W's blocks: at each byte place the change's polynomial is 00 at the nodes outside W, so
 -- that the leading rows alone take it to its values at W's nodes. Assumes nothing.
-use mathlib.Core.Path.{_≡_, sym, ap, ap₂, _∙_}
+use mathlib.Core.Path.{_≡_, sym, ap, ap₂, _∙_, subst}
 use mathlib.Core.Bool.{false, not, _&&_}
 use mathlib.Core.List.{List, _++_}
 use Prim.Native.Nat.{ℕ, suc, _-_, _*_, _^_, _≤_, _<_}
@@ -8,13 +8,14 @@ use native.Mathlib.Nat.{le-refl}
 use native.Mathlib.Omega.{arith}
 use borrow.Author.Tests.{not-true}
 use lib.Dec.{leb}
-use lib.ListN.{length, getD, take, length-append}
+use lib.ListN.{length, getD, take}
+use lib.Seq.{take-length}
 use Rattle.base.specs.Seq.{cell}
 use Rattle.field.specs.Field.{Bytes, add, mul}
 use Rattle.field.specs.FiniteSum.{sum}
 use Rattle.field.proofs.Addition.{add-zero-right}
 use Rattle.field.proofs.Multiplication.{mul-zero-right}
-use Rattle.field.proofs.FiniteSum.{sum-ext, sum-zeros}
+use Rattle.field.proofs.FiniteSum.{sum-zeros}
 use Rattle.interpolation.specs.Polynomial.{evaluate}
 use Rattle.interpolation.proofs.Rows.{cell-byte}
 use Rattle.params.specs.Nodes.{has, size, outside, listed, inOrder}
@@ -28,7 +29,7 @@ use Rattle.code.proofs.Pairs.{spread-exists}
 use Rattle.kernels.specs.Blocks.{Fits, Added}
 use Rattle.kernels.proofs.Arriving.{arriving-ext}
 use Rattle.coefficients.specs.Coefficients.{pointAt, Extends, Roomy}
-use Rattle.coefficients.proofs.Laws.{product-fits, first-length, first-inside, product-first, cell-front}
+use Rattle.coefficients.proofs.Laws.{product-fits, lent-anew, first-length, first-inside, product-first}
 use Rattle.updates.specs.Spreading.{Spreadable, Spread}
 
 module _ (a : Params) (d targets old : List ℕ) (to other : ℕ) (other-word : other < 2 ^ 32) (ok : Spreadable a (length d) to targets (length old))
@@ -83,14 +84,22 @@ module _ (a : Params) (d targets old : List ℕ) (to other : ℕ) (other-word : 
         ∙ add-zero-right _)
         ∙ at-block p (size other) (getD (listed to) t 0) others
 
+  -- the targets are lent anew, whole
+  targets-whole : take (a .w) targets ≡ targets
+  targets-whole = ap (λ (m : ℕ). take m targets) (sym (ok .count)) ∙ take-length targets
+
   pub spread : (leading gains rest order new : List ℕ) → length leading ≡ a .w * a .k → Extends (a .k) other to leading gains → Bytes d → order ≡ inOrder
-      → Added (a .b) (a .k) d targets (take (a .k) order) (leading ++ rest) old new → Spread a d to targets old new
-  spread leading gains rest order new full extends bytes o made =
+      → Added (a .b) (a .k) (take (length d) d) (take (a .w) targets) (take (a .k) order) (take (a .w * a .k) (leading ++ rest)) old new
+      → Spread a d to targets old new
+  spread leading gains rest order new full extends bytes o lent =
       let v = ok .valid in
       let k : a .k ≤ 32 = omega (arith, v .shape .k-le-w, v .shape .w-le-n, v .shape .n-high) in
-      let fits : Fits (a .b) (a .k) targets (take (a .k) order) (length d) (length (leading ++ rest)) (length old) =
-      product-fits (a .b) (a .k) (length d) (length (leading ++ rest)) (length old) targets (take (a .k) order) (v .b-low) (ok .target)
-      (omega (arith, first-length order o (a .k) k)) (omega (arith, ap (λ (m : ℕ). m * a .k) (ok .count), full, length-append leading rest))
+      let made : Added (a .b) (a .k) d targets (take (a .k) order) leading old new =
+      lent-anew (a .b) (a .k) (a .w * a .k) d leading rest targets (take (a .k) order) old new full
+      (subst (λ (l : List ℕ). Added (a .b) (a .k) (take (length d) d) l (take (a .k) order) (take (a .w * a .k) (leading ++ rest)) old new) targets-whole lent) in
+      let fits : Fits (a .b) (a .k) targets (take (a .k) order) (length d) (length leading) (length old) =
+      product-fits (a .b) (a .k) (length d) (length leading) (length old) targets (take (a .k) order) (v .b-low) (ok .target)
+      (omega (arith, first-length order o (a .k) k)) (omega (arith, ap (λ (m : ℕ). m * a .k) (ok .count), full))
       (first-inside order o (a .k) k (a .b) (a .k) (length d) (le-refl (a .k)) (omega (arith, ok .change-length))) in
       let s = spread-exists a to v (ok .to-within) (ok .to-size) d in
       record {
@@ -102,8 +111,6 @@ module _ (a : Params) (d targets old : List ℕ) (to other : ℕ) (other-word : 
             ∙ ap (add (cell (a .b) old j p))
             (arriving-ext (length targets) targets _ _ j
             (λ t ht.
-            product-first order o (a .k) k (a .b) (a .k) d (leading ++ rest) t p
-            ∙ sum-ext (a .k) _ _
-            (λ i hi. ap (λ (y : ℕ). mul y (cell (a .b) d i p)) (cell-front (a .k) (a .w) leading rest full t i (omega (arith, ok .count)) hi))
+            product-first order o (a .k) k (a .b) (a .k) d leading t p
             ∙ at-rank leading gains extends bytes (s .0) (s .1) t p (omega (arith, ok .count, ok .to-size)) hp));
       }

@@ -87,7 +87,7 @@ fn spread_narrow(a: Params, change: &[u8], to: NodeSet, targets: &[u8], out: &mu
 }
 
 // The same, with room for the rows that take the change, and the values at the nodes outside `to`, to the values at the nodes of `to`. The values outside
-// are all 00, so that the leading rows alone are applied.
+// are all 00, so that the leading rows alone are applied. What the product reads is lent anew, for the reason that encode_within of crate access gives.
 fn spread_within(
     a: Params,
     change: &[u8],
@@ -116,5 +116,14 @@ fn spread_within(
         &mut gains[..gains_area],
     );
     let order = in_order();
-    add_product(out, targets, b, change, &order[..k], leading, k);
+    let size = change.len();
+    add_product(
+        out,
+        &targets[..w],
+        b,
+        &change[..size],
+        &order[..k],
+        &leading[..leading_area],
+        k,
+    );
 }

@@ -1,14 +1,14 @@
 -- The leading rows take the change to what it makes of W's blocks. Assumes nothing.
-use mathlib.Core.Path.{sym, _∙_}
+use mathlib.Core.Path.{_≡_, sym, ap, _∙_}
 use Prim.Native.Nat.{_*_, _^_, _≤_, _<_}
 use native.Mathlib.Nat.{le-refl, mul-le-mul}
 use native.Mathlib.Omega.{arith}
 use borrow.Author.Needs.{needs}
 use denote.Ref.{now}
-use lib.ListN.{length}
-use lib.Seq.{length-take-le}
+use lib.ListN.{length, drop}
+use lib.Seq.{take-length, length-take-le}
 use Rattle.gates.proofs.Valid.{slack-le}
-use Rattle.coefficients.proofs.Laws.{areas-fit}
+use Rattle.coefficients.proofs.Laws.{areas-fit, buffer-fits, buffer-count}
 use Rattle.updates.proofs.Vanishing.{roomy, spread}
 use Rattle.updates.proofs.spread_within.Statement.{statement}
 use Rattle.updates.proofs.spread_within.Tie as tie
@@ -66,11 +66,35 @@ completion-rows-requires c κs = search needs
 in-order-requires : tie.Need-in-order-requires
 in-order-requires c κs = search needs
 
+slice-aggregate-add-product : tie.Need-slice-aggregate-add-product
+slice-aggregate-add-product c =
+    let s = c .before .before .before .before .before .before .before .before .before .before .before .before .before .before .before .before .before in
+    sym (length-take-le _ (now (s .args .targets)) (omega (arith, s .pre .0 .count)))
+
+slice-aggregate-add-product-2 : tie.Need-slice-aggregate-add-product-2
+slice-aggregate-add-product-2 c = sym (ap length (take-length (now (c .before .before .before .before .before .before .before .before .before .before .before .before .before .before .before .before .before .before .args .change))))
+
 array-share-prefix-order : tie.Need-array-share-prefix-order
 array-share-prefix-order c = search needs
 
-slice-aggregate-add-product : tie.Need-slice-aggregate-add-product
-slice-aggregate-add-product c = sym (length-take-le _ (c .before .before .in-order .result) (array-share-prefix-order (c .before)))
+slice-aggregate-add-product-3 : tie.Need-slice-aggregate-add-product-3
+slice-aggregate-add-product-3 c = sym (length-take-le _ (c .before .before .before .before .in-order .result) (array-share-prefix-order (c .before)))
+
+-- the leading rows fill their part of the room
+leading-full : (c : tie.After-completion-rows) → length (c .completion-rows .last .1 .1 .1 .0) ≡ c .before .before .before .before .before .before .before .before .before .before .args .a .w * c .before .before .before .before .before .before .before .before .before .before .args .a .k
+leading-full c = c .completion-rows .ensures .same-leading ∙ sym (slice-aggregate-completion-rows (c .before .before))
+
+slice-reshare-prefix-add-product : tie.Need-slice-reshare-prefix-add-product
+slice-reshare-prefix-add-product c =
+    let e = c .before .before .before .before .before .before .before .before .before in
+    let s = e .before .before .before .before .before .before .before .before .before .before in
+    buffer-fits _ (e .completion-rows .last .1 .1 .1 .0) (drop (s .args .a .w * s .args .a .k) (now (s .args .leading))) (leading-full e)
+
+slice-aggregate-add-product-4 : tie.Need-slice-aggregate-add-product-4
+slice-aggregate-add-product-4 c =
+    let e = c .before .before .before .before .before .before .before .before .before .before in
+    let s = e .before .before .before .before .before .before .before .before .before .before in
+    buffer-count _ (e .completion-rows .last .1 .1 .1 .0) (drop (s .args .a .w * s .args .a .k) (now (s .args .leading))) (leading-full e)
 
 add-product-requires : tie.Need-add-product-requires
 add-product-requires c κs = search needs
@@ -87,7 +111,7 @@ same-length-3 c = search needs
 returns : tie.Need-returns
 returns c =
     let p = c .before .before in
-    let o = p .before .before .before .before in
+    let o = p .before .before .before .before .before .before in
     let e = o .before .before .before .before .before in
     let g = e .before in
     let u = g .before .before in
@@ -98,7 +122,7 @@ returns c =
     (u .outside .ensures) _ _ _ (z .slack-parts .ensures) full (sym (slice-aggregate-completion-rows-2 g)) in
     spread (s .args .a) (now (s .args .change)) (now (s .args .targets)) (now (s .args .out)) (s .args .to .0) (u .outside .result .0) (outside-word u) (s .pre .0)
     (u .outside .ensures) (e .completion-rows .last .1 .1 .1 .0) (e .completion-rows .last .1 .1 .1 .1 .0) _ (o .in-order .result) _
-    (e .completion-rows .ensures .same-leading ∙ full) (e .completion-rows .ensures .written room)
+    (leading-full e) (e .completion-rows .ensures .written room)
     (λ i. omega (arith, z .before .before .before .before .before .shared-slice-known .given i)) (o .in-order .ensures) (p .add-product .ensures)
 
 pub spread-within-spec : {M : Type 1} → statement M
@@ -115,8 +139,12 @@ spread-within-spec =
     slice-aggregate-completion-rows-2
     completion-rows-requires
     in-order-requires
-    array-share-prefix-order
     slice-aggregate-add-product
+    slice-aggregate-add-product-2
+    array-share-prefix-order
+    slice-aggregate-add-product-3
+    slice-reshare-prefix-add-product
+    slice-aggregate-add-product-4
     add-product-requires
     same-length
     same-length-2

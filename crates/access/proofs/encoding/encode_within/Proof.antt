@@ -6,8 +6,8 @@ use borrow.Author.Needs.{needs}
 use denote.Ref.{now}
 use lib.ListN.{length, drop, replicate}
 use lib.Seq.{take-length, length-take-le}
-use Rattle.coefficients.proofs.Laws.{buffer-fits, buffer-count}
-use Rattle.access.proofs.PowerBlocks.{powers-most, most, area-is, lent-fronts, encoded}
+use Rattle.coefficients.proofs.Laws.{buffer-fits, buffer-count, lent-anew}
+use Rattle.access.proofs.PowerBlocks.{powers-most, most, area-is, encoded}
 use Rattle.access.proofs.encoding.encode_within.Statement.{statement}
 use Rattle.access.proofs.encoding.encode_within.Tie as tie
 
@@ -102,7 +102,7 @@ returns c =
     (now (s .args .parts)) (o .in-order .result) (k .in-order2 .result) _ _ (s .pre .1 .0 .0)
     (e .clear .ensures ∙ ap (λ (n : ℕ). replicate n 0) (s .pre .1 .0 .1))
     (o .in-order .ensures) (k .in-order2 .ensures)
-    (lent-fronts (s .args .a .b) q _ (now (s .args .parts)) last rest _ _ _ _ (powered r) (p .add-product .ensures))
+    (lent-anew (s .args .a .b) q _ (now (s .args .parts)) last rest _ _ _ _ (powered r) (p .add-product .ensures))
 
 pub encode-within-spec : {M : Type 1} → statement M
 encode-within-spec =
