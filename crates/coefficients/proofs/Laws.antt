@@ -15,7 +15,6 @@ use Rattle.base.proofs.Parts.{row-ends}
 use Rattle.field.specs.Field.{mul, pow}
 use Rattle.field.specs.FiniteSum.{sum}
 use Rattle.field.proofs.FiniteSum.{sum-ext}
-use Rattle.interpolation.proofs.Rows.{cell-take}
 use Rattle.params.specs.Nodes.{has, size, listed, inOrder, placesOf}
 use Rattle.params.proofs.Sets.{size-most, length-listed}
 use Rattle.params.proofs.Placing.{length-in-order, in-order-at, length-places, place-of}
@@ -46,11 +45,6 @@ pub zeros-front : (n m : ℕ) → n ≤ length (replicate {A = ℕ} m 0) → (j 
 zeros-front n m h j =
     ⊎-elim (λ (l : j < n). getD-take n (replicate m 0) j 0 l ∙ zeros-at m j)
     (λ l. List·getD-eq-default (take n (replicate m 0)) 0 (omega (arith, length-take-le n (replicate m 0) h))) (lt-or j n)
-
--- n rows of m entries at its front
-pub cell-front : (m n : ℕ) (rows rest : List ℕ) → length rows ≡ n * m → (i j : ℕ) → i < n → j < m → cell m (rows ++ rest) i j ≡ cell m rows i j
-cell-front m n rows rest e i j hi hj =
-    sym (cell-take m n (rows ++ rest) i j hi hj) ∙ ap (λ (l : List ℕ). cell m l i j) (buffer-front (n * m) rows rest e)
 
 -- ---- a set's nodes
 

@@ -30,7 +30,7 @@ unfolding pow
 pow-byte a zero = omega arith
 pow-byte a (suc e) = mul-byte a (pow a e)
 
-pub pow-one : (a : ℕ) → IsByte a → pow a 1 ≡ a
+pow-one : (a : ℕ) → IsByte a → pow a 1 ≡ a
 pow-one a ha = pow-suc a 0 ∙ ap (mul a) (pow-zero a) ∙ mul-one-right a ha
 
 pub pow-add : (a d e : ℕ) → pow a (d + e) ≡ mul (pow a d) (pow a e)

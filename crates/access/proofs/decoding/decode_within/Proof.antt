@@ -9,8 +9,7 @@ use lib.Seq.{length-take-le, take-length}
 use Rattle.params.specs.Nodes.{size, placesOf}
 use Rattle.params.proofs.Sets.{size-most}
 use Rattle.params.proofs.Placing.{placing-zeros}
-use Rattle.coefficients.proofs.Laws.{areas-fit, buffer-fits, buffer-count}
-use Rattle.access.proofs.PowerBlocks.{lent-fronts}
+use Rattle.coefficients.proofs.Laws.{areas-fit, buffer-fits, buffer-count, lent-anew}
 use Rattle.access.proofs.ReadBack.{decoded}
 use Rattle.access.proofs.decoding.decode_within.Statement.{statement}
 use Rattle.access.proofs.decoding.decode_within.Tie as tie
@@ -117,7 +116,7 @@ returns c =
     decoded (s .args .a) (s .args .from .0) _ (word s) (now (s .args .codeword)) (s .pre .0) q (l .places-of .last .1 .0)
     (o .in-order .result) rows _ _ (e .clear .ensures) (λ i. omega (arith, z .before .before .before .shared-slice-known .given i))
     (z .size .ensures) (places l) (o .in-order .ensures) (filled r) (r .reading-rows .ensures .written (record { few = few; room = room }))
-    (lent-fronts (s .args .a .b) q _ (now (s .args .codeword)) rows rest _ _ _ _ (filled r) (p .add-product .ensures))
+    (lent-anew (s .args .a .b) q _ (now (s .args .codeword)) rows rest _ _ _ _ (filled r) (p .add-product .ensures))
 
 pub decode-within-spec : {M : Type 1} → statement M
 decode-within-spec =
