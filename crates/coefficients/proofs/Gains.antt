@@ -37,24 +37,24 @@ power-small l e hl he =
     mul-le-mul small few
 
 -- no factor yet
-pub spread-none : (e x l : ℕ) (f : ℕ → ℕ) → pow 2 l ≡ x → pow 2 (l * (e + 1)) ≡ mul (pow x (suc e)) (product 0 f)
+pub apart-none : (e x l : ℕ) (f : ℕ → ℕ) → pow 2 l ≡ x → pow 2 (l * (e + 1)) ≡ mul (pow x (suc e)) (product 0 f)
 unfolding product
-spread-none e x l f h =
+apart-none e x l f h =
     ap (λ (k : ℕ). pow 2 (l * k)) (add-one e) ∙ sym (pow-pow 2 l (suc e)) ∙ ap (λ (k : ℕ). pow k (suc e)) h
     ∙ sym (mul-one-right (pow x (suc e)) (pow-byte x (suc e)))
 
 -- one more
-pub spread-more : (p n d j : ℕ) (f : ℕ → ℕ) → pow 2 n ≡ mul p (product j f) → pow 2 d ≡ f j → pow 2 (n + d) ≡ mul p (product (j + 1) f)
+pub apart-more : (p n d j : ℕ) (f : ℕ → ℕ) → pow 2 n ≡ mul p (product j f) → pow 2 d ≡ f j → pow 2 (n + d) ≡ mul p (product (j + 1) f)
 unfolding product
-spread-more p n d j f h k =
+apart-more p n d j f h k =
     pow-add 2 n d ∙ ap₂ mul h k ∙ mul-assoc p (product j f) (f j) ∙ ap (λ (i : ℕ). mul p (product i f)) (sym (add-one j))
 
 -- all
-pub spread-all : (e : ℕ) (at : List ℕ) (x n j : ℕ) → j ≤ length at → length at ≤ j
+pub apart-all : (e : ℕ) (at : List ℕ) (x n j : ℕ) → j ≤ length at → length at ≤ j
     → pow 2 n ≡ mul (pow x (suc e)) (product j (λ k. factor x x (point (getD at k 0))))
     → (n % 255 < 255) × (pow 2 (n % 255) ≡ apart e (pointsOf at) x x)
 unfolding apart
-spread-all e at x n j most done h =
+apart-all e at x n j most done h =
     let whole : j ≡ length at = omega arith in (
       mod-lt n (zero-lt-suc 254),
       pow-mod n ∙ h

@@ -1,4 +1,5 @@
 // From leading coefficients and values at some nodes to values at others.
+use crate::distances::apart_exponent;
 use crate::logarithms::exponent;
 use crate::logarithms::opposite;
 use crate::logarithms::reduced;
@@ -11,10 +12,9 @@ use params::in_order;
 ghost use mathlib.Core.Path.{_≡_};
 ghost use Prim.Native.Nat.{_*_, _≤_, _<_};
 ghost use lib.ListN.{length};
-ghost use Rattle.field.specs.Field.{pow, LogTable, PowerTable};
+ghost use Rattle.field.specs.Field.{LogTable, PowerTable};
 ghost use Rattle.code.specs.Code.{point};
 ghost use Rattle.interpolation.specs.Polynomial.{Points};
-ghost use Rattle.interpolation.specs.Lagrange.{factor, apart};
 ghost use Rattle.coefficients.specs.Working.{pointsOf, same, unitRow, gainRow, gainRows, Missing, Listed, Weighed, Weighable, Findable, Carries, Carriable, withPowers, withShare, Shared, Sharable, Completed, Completable};
 
 // leading and gains := the rows that take leading coefficients, and values at the nodes of `at`, to values at the targets. The gains take all that stands at
@@ -61,38 +61,9 @@ fn weigh(logs: &[u8], e: usize, at: &[u8], weights: &mut [u8])
     let m = at.len();
     let mut i = 0;
     while i < m {
-        weights[i] = spread(logs, e, at, at[i]) as u8;
+        weights[i] = apart_exponent(logs, e, at, at[i]) as u8;
         i += 1;
     }
-}
-
-// The exponent of x^(e+1) times the product of all x - d, for the points d of `at` other than x.
-pub(crate) fn spread(logs: &[u8], e: usize, at: &[u8], node: u8) -> usize
-    requires { ⌜ LogTable (now logs) ⌝ }
-    requires { ⌜ Weighable e (now at) ⌝ }
-    requires { ⌜ (point node ≡ 0 → ⊥) ⌝ }
-    ensures { λ r. ⌜ (r < 255) × (pow 2 r ≡ apart e (pointsOf (now (at .entry))) (point node) (point node)) ⌝ }
-{
-    let x = point(Node(node)).0;
-    let m = at.len();
-    let mut sum = exponent(logs, x) * (e + 1);
-    let mut j = 0;
-    while j < m {
-        sum += difference(logs, x, point(Node(at[j])).0);
-        j += 1;
-    }
-    sum % 255
-}
-
-// The exponent of x - d; that of 01 where they are equal.
-fn difference(logs: &[u8], x: u8, d: u8) -> usize
-    requires { ⌜ LogTable (now logs) ⌝ }
-    ensures { λ r. ⌜ (r < 255) × (pow 2 r ≡ factor x x d) ⌝ }
-{
-    if x == d {
-        return 0;
-    }
-    exponent(logs, x ^ d)
 }
 
 // gains := a row for each target.
@@ -204,7 +175,7 @@ fn fill_apart(
     requires { ⌜ Missing (length (now at)) (now at) target ⌝ }
     ensures { λ _. ⌜ now (gains .exit) ≡ gainRow e (now (at .entry)) target ⌝ }
 {
-    let whole = spread(logs, e, at, target);
+    let whole = apart_exponent(logs, e, at, target);
     let x = point(Node(target)).0;
     let m = at.len();
     let mut j = 0;

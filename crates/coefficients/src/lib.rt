@@ -2,6 +2,7 @@
 // coefficients (module reading) or to values at others (module completing). Both are written down by Lagrange's basis polynomials, the one by their
 // coefficients, the other by their values. A polynomial has no constant term here: its coefficients belong to the powers from 1 on.
 mod completing;
+mod distances;
 mod logarithms;
 mod raising;
 mod reading;

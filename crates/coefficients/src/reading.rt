@@ -4,7 +4,7 @@
 // the value that the quotient, times z, has at the node's point. That takes a number of steps that grows with the square of the number of nodes, where
 // elimination takes its cube.
 // Every function is lent the tables of exponents and of powers of 02; a point is told by its exponent.
-use crate::completing::spread;
+use crate::distances::apart_exponent;
 use crate::logarithms::exponent;
 use crate::logarithms::opposite;
 use crate::logarithms::raised;
@@ -101,7 +101,7 @@ fn fill_column(
 {
     let q = nodes.len();
     let back = opposite(exponent(logs, point(Node(nodes[i])).0));
-    let scale = opposite(spread(logs, 0, nodes, nodes[i]));
+    let scale = opposite(apart_exponent(logs, 0, nodes, nodes[i]));
     let mut lead = exps[reduced(reduced(first + scale) + back)];
     rows[i] = lead;
     let mut j = 1;

@@ -27,8 +27,8 @@ abbrev μ-loop : tie.MeasureT-loop
 target-byte : (c : tie.Start Inv-loop μ-loop) → IsByte (c .args .target)
 target-byte c = search needs
 
-spread-requires : tie.Need-spread-requires Inv-loop μ-loop
-spread-requires c κs =
+apart-exponent-requires : tie.Need-apart-exponent-requires Inv-loop μ-loop
+apart-exponent-requires c κs =
     let s = c .before .before .before .before .before in
     (s .pre .0, (s .pre .1 .1 .0 .formula, s .pre .1 .1 .0 .nonzero))
 
@@ -74,10 +74,10 @@ opposite-requires : tie.Need-opposite-requires Inv-loop μ-loop
 opposite-requires c κs = search needs
 
 add-reduced-2 : tie.Need-add-reduced-2 Inv-loop μ-loop
-add-reduced-2 c = omega (arith, c .before .before .before .before .before .before .before .before .before .before .before .spread .ensures .0)
+add-reduced-2 c = omega (arith, c .before .before .before .before .before .before .before .before .before .before .before .apart-exponent .ensures .0)
 
 reduced-requires-2 : tie.Need-reduced-requires-2 Inv-loop μ-loop
-reduced-requires-2 c κs = omega (arith, c .before .before .before .before .before .before .before .before .before .before .before .spread .ensures .0)
+reduced-requires-2 c κs = omega (arith, c .before .before .before .before .before .before .before .before .before .before .before .apart-exponent .ensures .0)
 
 shared-slice-read-gains : tie.Need-shared-slice-read-gains Inv-loop μ-loop
 shared-slice-read-gains c = search needs
@@ -103,7 +103,7 @@ loop-again c =
     let gap = c .before .before .before .before .exponent in
     let parts = c .before .before .before .reduced in
     let back = c .before .before .opposite in
-    let whole = c .before .before .before .before .before .before .before .before .before .before .before .before .before .spread in
+    let whole = c .before .before .before .before .before .before .before .before .before .before .before .before .before .apart-exponent in
     let found = gain-found (s .args .e) (now (s .args .at)) (s .args .target) (can .formula) (target-byte s) (s .pre .1 .1 .1) (l .j) inside
     (weight .result) (gap .result) (parts .result) (back .result) (whole .result) (r .result)
     (ap (pow 2) (weight .ensures) ∙ can .weighed .power (l .j) inside) (gap .ensures .1 ∙ gap-is (c .before .before .before .before .before)) (parts .ensures .1) (back .ensures .1) (whole .ensures .1) (r .ensures .1) in
@@ -125,7 +125,7 @@ fill-apart-spec =
     (tie.spec
     Inv-loop
     μ-loop
-    spread-requires
+    apart-exponent-requires
     point-requires
     loop-holds
     shared-slice-read-wide

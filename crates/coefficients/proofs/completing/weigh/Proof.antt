@@ -20,11 +20,11 @@ abbrev μ-loop : tie.MeasureT-loop
 loop-holds : tie.Need-loop-holds Inv-loop μ-loop
 loop-holds c = (omega arith, refl, weighed-none _ _ _ (omega (arith, c .before .before .before .pre .1 .0 .most)))
 
-shared-slice-read-spread : tie.Need-shared-slice-read-spread Inv-loop μ-loop
-shared-slice-read-spread c = search needs
+shared-slice-read-apart-exponent : tie.Need-shared-slice-read-apart-exponent Inv-loop μ-loop
+shared-slice-read-apart-exponent c = search needs
 
-spread-requires : tie.Need-spread-requires Inv-loop μ-loop
-spread-requires c κs =
+apart-exponent-requires : tie.Need-apart-exponent-requires Inv-loop μ-loop
+apart-exponent-requires c κs =
     let s = c .before .before .before .before .before .before in
     (s .pre .0, (s .pre .1 .0, point-nonzero (now (s .args .at)) (s .pre .1 .0 .points) _ (omega arith)))
 
@@ -43,7 +43,7 @@ loop-less c = search needs
 loop-again : tie.Need-loop-again Inv-loop μ-loop
 loop-again c =
     let l = c .before .before .before .loop in
-    (omega arith, simp length-set (l .inv .1), weighed-more _ _ (l .i) (l .weights) (c .spread .result) (omega (arith, l .inv .2 .room)) (c .spread .ensures .0) (c .spread .ensures .1) (l .inv .2))
+    (omega arith, simp length-set (l .inv .1), weighed-more _ _ (l .i) (l .weights) (c .apart-exponent .result) (omega (arith, l .inv .2 .room)) (c .apart-exponent .ensures .0) (c .apart-exponent .ensures .1) (l .inv .2))
 
 same-length : tie.Need-same-length Inv-loop μ-loop
 same-length c = c .before .loop .inv .1
@@ -61,8 +61,8 @@ weigh-spec =
     Inv-loop
     μ-loop
     loop-holds
-    shared-slice-read-spread
-    spread-requires
+    shared-slice-read-apart-exponent
+    apart-exponent-requires
     cast-weights
     slice-write-weights
     add-i

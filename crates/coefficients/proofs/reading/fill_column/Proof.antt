@@ -23,8 +23,8 @@ Inv-loop logs exps nodes i first product rows₀ q back scale lead₀ j₀ rows 
 abbrev μ-loop : tie.MeasureT-loop
 μ-loop logs exps nodes i first product rows₀ q back scale lead₀ j₀ rows lead j = length product - j
 
-shared-slice-read-spread : tie.Need-shared-slice-read-spread Inv-loop μ-loop
-shared-slice-read-spread c = search needs
+shared-slice-read-apart-exponent : tie.Need-shared-slice-read-apart-exponent Inv-loop μ-loop
+shared-slice-read-apart-exponent c = search needs
 
 point-requires : tie.Need-point-requires Inv-loop μ-loop
 point-requires c κs = search needs
@@ -37,11 +37,11 @@ exponent-requires c κs =
 opposite-requires : tie.Need-opposite-requires Inv-loop μ-loop
 opposite-requires c κs = search needs
 
-shared-slice-read-spread-2 : tie.Need-shared-slice-read-spread-2 Inv-loop μ-loop
-shared-slice-read-spread-2 c = search needs
+shared-slice-read-apart-exponent-2 : tie.Need-shared-slice-read-apart-exponent-2 Inv-loop μ-loop
+shared-slice-read-apart-exponent-2 c = search needs
 
-spread-requires : tie.Need-spread-requires Inv-loop μ-loop
-spread-requires c κs =
+apart-exponent-requires : tie.Need-apart-exponent-requires Inv-loop μ-loop
+apart-exponent-requires c κs =
     let s = c .before .before .before .before .before .before .before .before .before .before in
     let r = s .pre .1 .1 .0 in
     (s .pre .0, (record { e-most = omega arith; most = r .most; points = r .points }, point-nonzero (now (s .args .nodes)) (r .points) (s .args .i) (s .pre .1 .1 .1 .0)))
@@ -88,7 +88,7 @@ inverse c =
 weight : (c : tie.After-shared-slice-known7 Inv-loop μ-loop) → mul (apart 0 (pointsOf (now (start c .args .nodes))) (point (getD (now (start c .args .nodes)) (start c .args .i) 0)) (point (getD (now (start c .args .nodes)) (start c .args .i) 0))) (pow 2 (c .before .before .before .opposite2 .result)) ≡ 1
 weight c =
     let o = c .before .before .before in
-    ap (λ (k : ℕ). mul k (pow 2 (o .opposite2 .result))) (sym (o .before .spread .ensures .1)) ∙ o .opposite2 .ensures .1
+    ap (λ (k : ℕ). mul k (pow 2 (o .opposite2 .result))) (sym (o .before .apart-exponent .ensures .1)) ∙ o .opposite2 .ensures .1
 
 -- the first entry is written
 lead-is : (c : tie.After-shared-slice-known7 Inv-loop μ-loop) → getD (now (start c .args .exps)) (c .before .reduced2 .result) 0 ≡ basis (now (start c .args .nodes)) (start c .args .i) 0
@@ -173,12 +173,12 @@ fill-column-spec =
     (tie.spec
     Inv-loop
     μ-loop
-    shared-slice-read-spread
+    shared-slice-read-apart-exponent
     point-requires
     exponent-requires
     opposite-requires
-    shared-slice-read-spread-2
-    spread-requires
+    shared-slice-read-apart-exponent-2
+    apart-exponent-requires
     opposite-requires-2
     add-reduced
     reduced-requires

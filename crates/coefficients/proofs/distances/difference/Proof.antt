@@ -5,8 +5,8 @@ use Rattle.field.specs.Field.{add}
 use Rattle.field.proofs.Addition.{add-zero-eq}
 use Rattle.field.proofs.Exponents.{pow-zero}
 use Rattle.interpolation.proofs.Lagrange.{factor-same, factor-other}
-use Rattle.coefficients.proofs.completing.difference.Statement.{statement}
-use Rattle.coefficients.proofs.completing.difference.Tie as tie
+use Rattle.coefficients.proofs.distances.difference.Statement.{statement}
+use Rattle.coefficients.proofs.distances.difference.Tie as tie
 
 returns : tie.Need-returns
 returns c = (omega arith, pow-zero 2 ∙ sym (factor-same (c .before .before .args .x) (c .before .before .args .x) (c .before .before .args .d) (sym (c .if1 .taken))))

@@ -9,9 +9,9 @@ use Rattle.field.specs.Field.{mul, pow}
 use Rattle.interpolation.specs.Lagrange.{product, factor, apart}
 use Rattle.code.specs.Code.{point}
 use Rattle.coefficients.specs.Working.{pointsOf}
-use Rattle.coefficients.proofs.Gains.{power-small, spread-none, spread-more, spread-all}
-use Rattle.coefficients.proofs.completing.spread.Statement.{statement}
-use Rattle.coefficients.proofs.completing.spread.Tie as tie
+use Rattle.coefficients.proofs.Gains.{power-small, apart-none, apart-more, apart-all}
+use Rattle.coefficients.proofs.distances.apart_exponent.Statement.{statement}
+use Rattle.coefficients.proofs.distances.apart_exponent.Tie as tie
 
 abbrev Inv-loop : tie.InvT-loop
 Inv-loop logs e at node x m sum₀ j₀ sum j = (j ≤ length at) × (sum ≤ 254 * 33 + j * 254) × (pow 2 sum ≡ mul (pow x (suc e)) (product j (λ k. factor x x (point (getD at k 0)))))
@@ -35,7 +35,7 @@ loop-holds : tie.Need-loop-holds Inv-loop μ-loop
 loop-holds c =
     let s = c .before .before .before .before in
     let l = c .exponent in
-    (omega arith, omega (arith, power-small (l .result) (s .args .e) (l .ensures .0) (s .pre .1 .0 .e-most)), spread-none (s .args .e) _ (l .result) _ (l .ensures .1))
+    (omega arith, omega (arith, power-small (l .result) (s .args .e) (l .ensures .0) (s .pre .1 .0 .e-most)), apart-none (s .args .e) _ (l .result) _ (l .ensures .1))
 
 shared-slice-read-t17 : tie.Need-shared-slice-read-t17 Inv-loop μ-loop
 shared-slice-read-t17 c = search needs
@@ -58,17 +58,17 @@ loop-less c = search needs
 loop-again : tie.Need-loop-again Inv-loop μ-loop
 loop-again c =
     let l = c .before .before .before .before .loop in
-    (omega arith, omega arith, spread-more _ (l .sum) (c .difference .result) (l .j) _ (l .inv .2) (c .difference .ensures .1 ∙ ap (factor _ _) (c .before .point2 .ensures)))
+    (omega arith, omega arith, apart-more _ (l .sum) (c .difference .result) (l .j) _ (l .inv .2) (c .difference .ensures .1 ∙ ap (factor _ _) (c .before .point2 .ensures)))
 
 returns : tie.Need-returns Inv-loop μ-loop
 returns c =
     let l = c .before .loop in
     let s = c .before .before .before .before .before .before .args in
-    let r = spread-all (s .e) (now (s .at)) _ (l .sum) (l .j) (l .inv .0) (omega arith) (l .inv .2) in
+    let r = apart-all (s .e) (now (s .at)) _ (l .sum) (l .j) (l .inv .0) (omega arith) (l .inv .2) in
     (r .0, r .1 ∙ ap (λ (x : ℕ). apart (s .e) (pointsOf (now (s .at))) x x) (c .before .before .before .point .ensures))
 
-pub spread-spec : {M : Type 1} → statement M
-spread-spec =
+pub apart-exponent-spec : {M : Type 1} → statement M
+apart-exponent-spec =
     tie.close
     (tie.spec
     Inv-loop
