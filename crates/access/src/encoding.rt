@@ -25,7 +25,7 @@ pub fn encode(a: Params, message: &[u8], slack: &[u8], codeword: &mut [u8]) -> u
     0
 }
 
-// An accepted call: makes room for message and slack side by side, no more than is wanted, since room is cleared at each call. The function for the larger rooms is
+// An accepted call: makes room for message and slack side by side, about as much as is wanted, since room is cleared at each call. The function for the larger rooms is
 // called at two places, and the first test is there for that alone: the compiler then keeps it apart, and a small call takes no stack for them.
 fn encode_blocks(a: Params, message: &[u8], slack: &[u8], codeword: &mut [u8])
     requires { ⌜ EncodeAccepted a (length (now message)) (length (now slack)) (length (now codeword)) ⌝ }

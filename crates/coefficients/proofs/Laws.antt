@@ -58,7 +58,7 @@ module _ (s : ℕ) (h : s < 2 ^ 32) (l : List ℕ) (e : Lists s l) where
       ap length e ∙ length-append (listed s) (replicate (32 - size s) 0)
       ∙ omega (arith, length-listed s h, length-replicate {A = ℕ} (32 - size s) 0, size-most s h)
 
-  -- the front that is lent, for the count that NodeSet::size gives
+  -- the front that is lent, for the number of the set's nodes
   module _ (n : ℕ) (all : n ≡ size s) where
     pub front-fits : n ≤ length l
     front-fits = omega (arith, list-length, size-most s h)

@@ -20,7 +20,7 @@ powersOf c m = tabulate m (λ j. pow c (suc j))
 unfoldable pub powerRows : ℕ → List ℕ → List ℕ
 powerRows m nodes = blocks m (length nodes) (λ i j. pow (point (getD nodes i 0)) (suc j))
 
--- the exponents, as powers of 02, of the bytes up to 32
+-- the exponents, as powers of 02, of the bytes 1 to 32; nothing is said of the entry of 00
 pub record LowExponents (t : List ℕ) : Type 0 where
   pub count : length t ≡ 33
   pub small : (a : ℕ) → a < 33 → (a ≡ 0 → ⊥) → getD t a 0 < 255

@@ -9,7 +9,7 @@ ghost use Rattle.code.specs.Code.{point};
 ghost use Rattle.interpolation.specs.Lagrange.{factor, apart};
 ghost use Rattle.coefficients.specs.Working.{pointsOf, Weighable};
 
-// The exponent of x^(e+1) times the product of all x - d, for the points d of `at` other than x.
+// The exponent of x^(e+1) times the product of all x - d, for the node's point x and the points d of `at` other than x.
 pub(crate) fn apart_exponent(logs: &[u8], e: usize, at: &[u8], node: u8) -> usize
     requires { ⌜ LogTable (now logs) ⌝ }
     requires { ⌜ Weighable e (now at) ⌝ }
