@@ -7,14 +7,14 @@ use native.Mathlib.Nat.{zero-lt-suc}
 use native.Mathlib.Omega.{arith}
 use borrow.Author.Tests.{eqb-true, eqb-false, not-true, not-false}
 use lib.Dec.{eqb}
-use lib.ListN.{length, getD, take, replicate}
+use lib.ListN.{length, getD, take}
 use lib.Seq.{getD-take, length-take-le, ext-getD}
 use Rattle.base.specs.Seq.{tabulate, blocks}
-use Rattle.base.proofs.Seq.{length-tabulate, getD-tabulate, tabulate-ext, tabulate-zeros, length-blocks}
+use Rattle.base.proofs.Seq.{length-tabulate, getD-tabulate, length-blocks}
 use Rattle.base.specs.Parts.{Blocked}
 use Rattle.base.proofs.Parts.{blocked-all}
 use Rattle.field.specs.Field.{mul, pow}
-use Rattle.field.proofs.Multiplication.{mul-comm, mul-zero-left}
+use Rattle.field.proofs.Multiplication.{mul-comm}
 use Rattle.field.proofs.Exponents.{pow-suc, pow-add, logs, log-table}
 use Rattle.code.specs.Code.{point}
 use Rattle.coefficients.specs.Coefficients.{pointPowers, PowersPost}
@@ -37,12 +37,6 @@ row-powers c m lent new h q =
     )
 
 -- ---- powers by exponents
-
--- the powers of 00
-pub powers-of-zero : (c m : ℕ) → c ≡ 0 → replicate m 0 ≡ powersOf c m
-unfolding powersOf
-powers-of-zero c m z =
-    sym (tabulate-zeros m) ∙ tabulate-ext m _ _ (λ j hj. sym (ap (λ (k : ℕ). pow k (suc j)) z ∙ pow-suc 0 j ∙ mul-zero-left (pow 0 j)))
 
 -- one more power of 02^l
 pub step-on : (x l j : ℕ) → pow 2 x ≡ pow (pow 2 l) j → pow 2 (x + l) ≡ pow (pow 2 l) (suc j)

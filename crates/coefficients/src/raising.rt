@@ -2,15 +2,15 @@
 use crate::logarithms::exponent;
 use crate::logarithms::reduced;
 use base::wide;
-use blocks::clear;
 use code::point;
 use params::Node;
 ghost use mathlib.Core.Path.{_≡_};
 ghost use Prim.Native.Nat.{_*_, _≤_, _<_};
 ghost use lib.ListN.{length};
 ghost use Rattle.field.specs.Field.{pow, LogTable, PowerTable};
+ghost use Rattle.interpolation.specs.Polynomial.{Points};
 ghost use Rattle.coefficients.specs.Coefficients.{pointPowers};
-ghost use Rattle.coefficients.specs.Working.{powersOf, powerRows, LowExponents};
+ghost use Rattle.coefficients.specs.Working.{pointsOf, powersOf, powerRows, LowExponents};
 
 // out := a row for each of the nodes 1, .., n: the powers 1, .., m of its point. The points of these nodes are low bytes; the exponents of these are lent, so that
 // the table of all is not wanted.
@@ -75,6 +75,7 @@ pub(crate) fn low_exponents() -> [u8; 33]
 pub(crate) fn fill_rows(logs: &[u8], exps: &[u8], nodes: &[u8], m: usize, out: &mut [u8])
     requires { ⌜ LogTable (now logs) ⌝ }
     requires { ⌜ PowerTable (now exps) ⌝ }
+    requires { ⌜ Points (pointsOf (now nodes)) ⌝ }
     requires { ⌜ length (now out) ≡ length (now nodes) * m ⌝ }
     ensures { λ _. ⌜ now (out .exit) ≡ powerRows m (now (nodes .entry)) ⌝ }
 {
@@ -83,22 +84,10 @@ pub(crate) fn fill_rows(logs: &[u8], exps: &[u8], nodes: &[u8], m: usize, out: &
     while i < count {
         let at = i * m;
         let end = at + m;
-        fill_powers(logs, exps, point(Node(nodes[i])).0, &mut out[at..end]);
+        let l = exponent(logs, point(Node(nodes[i])).0);
+        fill_from(exps, l, &mut out[at..end]);
         i += 1;
     }
-}
-
-// out := c, c^2, ..
-fn fill_powers(logs: &[u8], exps: &[u8], c: u8, out: &mut [u8])
-    requires { ⌜ LogTable (now logs) ⌝ }
-    requires { ⌜ PowerTable (now exps) ⌝ }
-    ensures { λ _. ⌜ now (out .exit) ≡ powersOf c (length (now (out .entry))) ⌝ }
-{
-    if c == 0 {
-        clear(out);
-        return;
-    }
-    fill_from(exps, exponent(logs, c), out);
 }
 
 // out := 02^l, 02^(2·l), ..

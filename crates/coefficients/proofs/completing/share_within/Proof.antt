@@ -20,7 +20,7 @@ slice-aggregate-fill-rows : tie.Need-slice-aggregate-fill-rows
 slice-aggregate-fill-rows c = sym (length-take-le _ (now (c .before .before .before .before .before .before .before .args .powers)) (c .before .before .before .before .before .before .before .pre .1 .1 .1))
 
 fill-rows-requires : tie.Need-fill-rows-requires
-fill-rows-requires c κs = (c .before .before .before .before .before .before .before .pre .0, (c .before .before .before .before .before .before .before .pre .1 .0, length-take-le _ (now (c .before .before .before .before .before .before .before .args .powers)) (c .before .before .before .before .before .before .before .pre .1 .1 .1)))
+fill-rows-requires c κs = (c .before .before .before .before .before .before .before .pre .0, (c .before .before .before .before .before .before .before .pre .1 .0, (c .before .before .before .before .before .before .before .pre .1 .1 .0 .points, length-take-le _ (now (c .before .before .before .before .before .before .before .args .powers)) (c .before .before .before .before .before .before .before .pre .1 .1 .1))))
 
 -- how many bytes the powers are
 powers-back : (c : tie.After-fill-rows) → length (c .fill-rows .last .1 .1 .1 .1 .0) ≡ length (now (c .before .before .before .before .before .before .before .before .args .at)) * c .before .before .before .before .before .before .before .before .args .e

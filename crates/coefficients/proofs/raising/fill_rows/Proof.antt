@@ -1,5 +1,5 @@
 -- After i turns the first i rows are the powers of their points. Assumes nothing.
-use mathlib.Core.Path.{ap, _∙_}
+use mathlib.Core.Path.{sym, ap, _∙_}
 use Prim.Native.Nat.{ℕ, suc, _+_, _-_, _*_, _≤_}
 use native.Mathlib.Omega.{arith}
 use borrow.Author.Needs.{needs}
@@ -10,6 +10,7 @@ use Rattle.base.proofs.Parts.{blocked-none, blocked-more, row-ends, length-part
 use Rattle.field.specs.Field.{pow}
 use Rattle.code.specs.Code.{point}
 use Rattle.coefficients.specs.Working.{powersOf, powerRows}
+use Rattle.coefficients.proofs.Values.{point-nonzero}
 use Rattle.coefficients.proofs.Rows.{row-powers, blocked-whole}
 use Rattle.coefficients.proofs.raising.fill_rows.Statement.{statement}
 use Rattle.coefficients.proofs.raising.fill_rows.Tie as tie
@@ -24,7 +25,7 @@ loop-holds : tie.Need-loop-holds Inv-loop μ-loop
 loop-holds c = (omega arith, blocked-none _ _ _ _)
 
 row-end : (c : tie.In-loop Inv-loop μ-loop) → c .before .loop .i * c .before .before .before .before .before .before .args .m + c .before .before .before .before .before .before .args .m ≤ length (now (c .before .before .before .before .before .before .args .out))
-row-end c = row-ends (length (now (c .before .before .before .before .before .before .args .nodes))) (c .before .loop .i) (c .before .before .before .before .before .before .args .m) _ (omega arith) (omega (arith, c .before .before .before .before .before .before .pre))
+row-end c = row-ends (length (now (c .before .before .before .before .before .before .args .nodes))) (c .before .loop .i) (c .before .before .before .before .before .before .args .m) _ (omega arith) (omega (arith, c .before .before .before .before .before .before .pre .1 .1 .1))
 
 mul-at : tie.Need-mul-at Inv-loop μ-loop
 mul-at c = omega (arith, row-end c)
@@ -38,17 +39,22 @@ shared-slice-read-t14 c = search needs
 point-requires : tie.Need-point-requires Inv-loop μ-loop
 point-requires c κs = search needs
 
-sub-fill-powers : tie.Need-sub-fill-powers Inv-loop μ-loop
-sub-fill-powers c = search needs
+exponent-requires : tie.Need-exponent-requires Inv-loop μ-loop
+exponent-requires c κs =
+    let s = c .before .before .before .before .before .before .before .before in
+    (s .pre .0, λ z. point-nonzero (now (s .args .nodes)) (s .pre .1 .1 .0) (c .before .before .before .loop .i) (omega arith) (sym (c .point .ensures) ∙ z))
 
-part-fill-powers-start : tie.Need-part-fill-powers-start Inv-loop μ-loop
-part-fill-powers-start c = search needs
+sub-fill-from : tie.Need-sub-fill-from Inv-loop μ-loop
+sub-fill-from c = search needs
 
-part-fill-powers-end : tie.Need-part-fill-powers-end Inv-loop μ-loop
-part-fill-powers-end c = omega (arith, row-end (c .before .before), c .before .before .before .loop .inv .1 .same)
+part-fill-from-start : tie.Need-part-fill-from-start Inv-loop μ-loop
+part-fill-from-start c = search needs
 
-fill-powers-requires : tie.Need-fill-powers-requires Inv-loop μ-loop
-fill-powers-requires c κs = search needs
+part-fill-from-end : tie.Need-part-fill-from-end Inv-loop μ-loop
+part-fill-from-end c = omega (arith, row-end (c .before .before .before), c .before .before .before .before .loop .inv .1 .same)
+
+fill-from-requires : tie.Need-fill-from-requires Inv-loop μ-loop
+fill-from-requires c κs = (c .before .before .before .before .before .before .before .before .before .before .pre .1 .0, c .before .exponent .ensures .0)
 
 add-i : tie.Need-add-i Inv-loop μ-loop
 add-i c = search needs
@@ -58,20 +64,22 @@ loop-less c = search needs
 
 loop-again : tie.Need-loop-again Inv-loop μ-loop
 loop-again c =
-    let s = c .before .before .before .before .before .before .before .before .before .before .before .before in
-    let l = c .before .before .before .before .before .before .before .loop in
+    let s = c .before .before .before .before .before .before .before .before .before .before .before .before .before in
+    let l = c .before .before .before .before .before .before .before .before .loop in
+    let e = c .before .before .before .before in
+    let f = c .before .before .fill-from in
     let part = partOf (s .args .m) (l .i) (l .out) in
-    let r = row-powers (point (getD (now (s .args .nodes)) (l .i) 0)) (s .args .m) part (c .before .before .fill-powers .last .1 .1 .1 .0)
-    (length-partOf (s .args .m) (l .i) (l .out) (omega (arith, row-end (c .before .before .before .before .before .before), l .inv .1 .same)))
-    (c .before .before .fill-powers .ensures ∙ ap (λ (x : ℕ). powersOf x (length part)) (c .before .before .before .before .point .ensures)) in
-    (omega arith, blocked-more _ _ _ (l .i) _ (l .out) (c .before .before .fill-powers .last .1 .1 .1 .0) (omega arith) (s .pre .1 .1) (r .0) (r .1) (l .inv .1))
+    let r = row-powers (point (getD (now (s .args .nodes)) (l .i) 0)) (s .args .m) part (f .last .1 .1 .0)
+    (length-partOf (s .args .m) (l .i) (l .out) (omega (arith, row-end (c .before .before .before .before .before .before .before), l .inv .1 .same)))
+    (f .ensures ∙ ap (λ (x : ℕ). powersOf x (length part)) (e .exponent .ensures .1 ∙ e .before .point .ensures)) in
+    (omega arith, blocked-more _ _ _ (l .i) _ (l .out) (f .last .1 .1 .0) (omega arith) (s .pre .1 .1 .1) (r .0) (r .1) (l .inv .1))
 
 same-length : tie.Need-same-length Inv-loop μ-loop
 same-length c = c .before .loop .inv .1 .same
 
 returns : tie.Need-returns Inv-loop μ-loop
 unfolding powerRows
-returns c = blocked-whole _ _ _ _ _ _ (c .before .before .before .before .before .before .pre .1 .1) (omega arith) (c .before .loop .inv .1)
+returns c = blocked-whole _ _ _ _ _ _ (c .before .before .before .before .before .before .pre .1 .1 .1) (omega arith) (c .before .loop .inv .1)
 
 pub fill-rows-spec : {M : Type 1} → statement M
 fill-rows-spec =
@@ -84,10 +92,11 @@ fill-rows-spec =
     add-end
     shared-slice-read-t14
     point-requires
-    sub-fill-powers
-    part-fill-powers-start
-    part-fill-powers-end
-    fill-powers-requires
+    exponent-requires
+    sub-fill-from
+    part-fill-from-start
+    part-fill-from-end
+    fill-from-requires
     add-i
     loop-less
     loop-again
