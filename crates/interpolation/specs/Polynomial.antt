@@ -12,7 +12,7 @@ use Rattle.field.specs.FiniteSum.{sum}
 unfoldable pub evaluate : ℕ → ℕ → (ℕ → ℕ) → (ℕ → ℕ) → ℕ → ℕ
 evaluate e m x v c = add (sum e (λ j. mul (x j) (pow c (suc j)))) (sum m (λ j. mul (v j) (pow c (e + suc j))))
 
--- Points at which a polynomial may be told: bytes, not 00, and no two of them equal.
+-- Points whose values settle a polynomial that has as many coefficients: bytes, not 00, and no two of them equal.
 pub record Points (ps : List ℕ) : Type 0 where
   pub bytes : Bytes ps
   pub nonzero : (i : ℕ) → i < length ps → getD ps i 0 ≡ 0 → ⊥

@@ -97,7 +97,7 @@ fn places_fit(b: usize, places: &[u8], src: usize) -> bool
     true
 }
 
-// The same where it fits, by the way that is the faster one.
+// A product that fits, by the fastest of the three ways.
 fn add_fitting(
     out: &mut [u8],
     targets: &[u8],
@@ -140,8 +140,8 @@ fn prefers_short(rows: usize, b: usize, width: usize) -> bool
     rows * b <= 512
 }
 
-// Whether it goes row by row, if not so: one row and few products do not pay for the tables of long tiles, and those have room for 32 rows and columns. A product
-// with b bytes takes about as long as b + 48 bytes of a long one.
+// Of a product that does not go in short tiles: whether it goes row by row. One row, or few products, do not pay for the tables of the long tiles, which have room for
+// 32 rows and 32 columns. The product of a block of b bytes takes about as long as b + 48 bytes of a longer block.
 fn prefers_rows(rows: usize, b: usize, width: usize) -> bool
     ensures { λ r. ⌜ (r ≡ false → (rows ≤ 32) × (width ≤ 32)) ⌝ }
 {
@@ -160,7 +160,7 @@ fn prefers_rows(rows: usize, b: usize, width: usize) -> bool
     rows * width * (b + 48) <= 2000
 }
 
-// Row by row.
+// A product that fits, row by row.
 fn add_rows(
     out: &mut [u8],
     targets: &[u8],
