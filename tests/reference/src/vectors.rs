@@ -155,22 +155,16 @@ pub enum Verdict {
     NumberDiffers,
     BytesDiffer,
     ColumnWrong,
-    /// The line has the old record where the new one is due.
-    OldRecordGiven,
 }
 
-fn compare(fields: &Fields, expected: &str, found: &str) -> Verdict {
+fn compare(expected: &str, found: &str) -> Verdict {
     let number = |text: &str| text.split(' ').next().map(str::to_string);
     if expected == found {
-        return Verdict::Same;
-    }
-    if number(expected) != number(found) {
-        return Verdict::NumberDiffers;
-    }
-    let behind = expected.split_once("new=").map(|(_, bytes)| bytes);
-    match behind {
-        Some(bytes) if fields.text("record") == Ok(bytes) => Verdict::OldRecordGiven,
-        _ => Verdict::BytesDiffer,
+        Verdict::Same
+    } else if number(expected) != number(found) {
+        Verdict::NumberDiffers
+    } else {
+        Verdict::BytesDiffer
     }
 }
 
@@ -192,7 +186,7 @@ pub fn try_line<'a>(line: &'a str, calls: &dyn Calls) -> Parsed<Tried<'a>> {
     let expected = expected.trim_end();
     let found = behind_arrow(&case, &outcome);
     let verdict = if outcome.column_right {
-        compare(&fields, expected, &found)
+        compare(expected, &found)
     } else {
         Verdict::ColumnWrong
     };
@@ -204,19 +198,15 @@ pub fn try_line<'a>(line: &'a str, calls: &dyn Calls) -> Parsed<Tried<'a>> {
     })
 }
 
-/// Puts every line's call to an implementation. All must be the same but the
-/// bytes of rearrangements where the line has the old record in place of the
-/// new. Gives the count of lines, and of those whose number alone was compared.
-pub fn try_all(text: &str, calls: &dyn Calls) -> Parsed<(usize, usize)> {
-    let (mut lines, mut numbers_only) = (0, 0);
+/// Puts every line's call to an implementation: all must be the same. Gives the
+/// count of lines.
+pub fn try_all(text: &str, calls: &dyn Calls) -> Parsed<usize> {
     for line in text.lines() {
         let tried = try_line(line, calls)?;
-        match tried.verdict {
-            Verdict::Same => {}
-            Verdict::OldRecordGiven => numbers_only += 1,
-            verdict => return Err(format!("{verdict:?}: {line}\nfound {}", tried.found)),
+        if tried.verdict != Verdict::Same {
+            let verdict = tried.verdict;
+            return Err(format!("{verdict:?}: {line}\nfound {}", tried.found));
         }
-        lines += 1;
     }
-    Ok((lines, numbers_only))
+    Ok(text.lines().count())
 }

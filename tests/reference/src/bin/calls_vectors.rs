@@ -13,7 +13,6 @@ struct Count {
     number: usize,
     bytes: usize,
     column: usize,
-    old_record: usize,
 }
 
 impl Count {
@@ -24,12 +23,11 @@ impl Count {
             Verdict::NumberDiffers => self.number += 1,
             Verdict::BytesDiffer => self.bytes += 1,
             Verdict::ColumnWrong => self.column += 1,
-            Verdict::OldRecordGiven => self.old_record += 1,
         }
     }
 
     fn differ(&self) -> usize {
-        self.number + self.bytes + self.column + self.old_record
+        self.number + self.bytes + self.column
     }
 }
 
@@ -57,11 +55,11 @@ fn run_all(text: &str) -> (BTreeMap<String, Count>, usize) {
 }
 
 fn print_table(counts: &BTreeMap<String, Count>, unread: usize) {
-    println!("call         lines  number  bytes  column  old record in place of the new");
+    println!("call         lines  number  bytes  column");
     for (call, c) in counts {
         println!(
-            "{call:<11} {:>6} {:>7} {:>6} {:>7} {:>6}",
-            c.lines, c.number, c.bytes, c.column, c.old_record
+            "{call:<11} {:>6} {:>7} {:>6} {:>7}",
+            c.lines, c.number, c.bytes, c.column
         );
     }
     println!("lines that could not be tried: {unread}");
