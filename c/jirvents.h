@@ -1,16 +1,16 @@
 /* Jirvents for C: records spread over storage nodes by a Read-Write erasure code. Any r of n nodes give a record's message back, and a change of the message
- * goes out to any w nodes without reading them. Link with libjirvents.a (`rt staticlib jirvents`).
+ * goes out to any w nodes without reading them. Link with target/staticlib/libjirvents.a, which `rt staticlib jirvents` makes, for x86-64 Linux alone.
  *
  * A code has k message parts, r nodes to read, w nodes to write and n nodes, with r + w = k + n, and b bytes in a block. A message is k parts of b bytes, a
- * slack r - k parts, a codeword n blocks, that of node 1 first. A node set is a number of 32 bits in which node i is worth 2^(i-1).
+ * slack n - w parts (any bytes), a codeword n blocks, that of node 1 first. A node set is a number of 32 bits in which node i is worth 2^(i-1).
  *
  * Every number, set and length may be given. Each function puts its questions, told at its declaration, and answers 0 (JIRVENTS_SERVED), or the number of the
- * first whose answer is no; it then writes nothing, but for the column that goes with 15. The questions are put in the order of the enum below, which is not that of the numbers: 1 to 5, 11 to 14,
- * 16, 6, 7, 8, 9, 10, 15.
+ * first whose answer is no; it then writes nothing, but for the column that goes with 15. The questions are put in the order of the enum below, which is not
+ * that of the numbers: 1 to 5, 11 to 14, 16, 6, 7, 8, 9, 10, 15.
  *
  * A slice is a pointer and a length in bytes. Its pointer must be valid for that many bytes (and not null, also for length 0), and slices that are written must
- * not overlap others. The pointers node, start and column must be valid, not null, and apart from every slice. No function allocates, keeps a pointer or has a
- * state. */
+ * not overlap others. The pointers node, start and column must be valid, not null, and apart from every slice. No function allocates, keeps a pointer or has
+ * any state. Each takes its room on the stack: up to 88 kB (reconfigure), 53 (encode), 18 for a decode of a few bytes. */
 #ifndef JIRVENTS_H
 #define JIRVENTS_H
 
@@ -42,7 +42,7 @@ enum {
     JIRVENTS_SINGULAR = 15       /* has the matrix an inverse? */
 };
 
-/* Writes the codeword (n*b bytes) of a message (k*b bytes) and a slack ((r-k)*b bytes), whatever the codeword's bytes were. Questions 1 to 6. */
+/* Writes the codeword (n*b bytes) of a message (k*b bytes) and a slack ((n-w)*b bytes), whatever the codeword's bytes were. Questions 1 to 6. */
 uint32_t jirvents_encode(size_t k, size_t r, size_t w, size_t n, size_t b, const uint8_t *message, size_t message_len, const uint8_t *slack,
                          size_t slack_len, uint8_t *codeword, size_t codeword_len);
 
@@ -66,7 +66,8 @@ uint32_t jirvents_repair(size_t k, size_t r, size_t w, size_t n, size_t b, uint8
 uint32_t jirvents_reconfigure(size_t k, size_t r, size_t w, size_t n, size_t b, size_t k2, size_t r2, size_t w2, size_t n2, const uint8_t *codeword,
                               size_t codeword_len, uint32_t from, uint32_t to, const uint8_t *message, size_t message_len, uint8_t *out, size_t out_len);
 
-/* Whether all blocks come from the pair of nodes 1 to r: with answer 0 *node becomes 0, or the lowest node whose block differs. Questions 1 to 6. */
+/* Compares all blocks with what those of nodes 1 to r give: with answer 0 *node becomes 0 if they agree, else the lowest node whose block differs. That need not
+ * be the damaged one: with node 1 damaged it is a sound one. Questions 1 to 6. */
 uint32_t jirvents_check(size_t k, size_t r, size_t w, size_t n, size_t b, const uint8_t *codeword, size_t codeword_len, uint8_t *node);
 
 /* Where a node's block stands: with answer 0 it is the b bytes from codeword + *start on. Questions 1 to 6, 10. */

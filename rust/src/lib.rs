@@ -6,11 +6,14 @@
 //! their declarations and safe functions. What the library assumes of slices,
 //! that they are whole and do not overlap, Rust's borrows provide.
 //!
-//! A **message** is k parts of b bytes, a **slack** r - k parts, a **codeword**
-//! n blocks, that of node 1 first. A **node set** is a `u32` in which node i is
-//! worth 2^(i-1). Every number, set and length may be given: each call puts its
-//! questions, in the order of [`QUESTIONS`], and is refused by the first that is
-//! answered no. A refused call writes nothing.
+//! A **message** is k parts of b bytes, a **slack** n - w parts (any bytes), a
+//! **codeword** n blocks, that of node 1 first. A **node set** is a `u32` in
+//! which node i is worth 2^(i-1). Every number, set and length may be given:
+//! each call puts its questions, in the order of [`QUESTIONS`], and is refused
+//! by the first that is answered no. A refused call writes nothing.
+//!
+//! No call allocates or keeps any state. Each takes its room on the stack, up to
+//! 88 kB.
 //!
 //! ```
 //! use jirvents::{decode, encode, repair, update, view, Params};
@@ -290,7 +293,7 @@ fn served(number: u32) -> Result<(), Refusal> {
 }
 
 /// Writes to `codeword` (n·b bytes) the blocks of a message (k·b bytes) and a
-/// slack ((r - k)·b bytes).
+/// slack ((n - w)·b bytes).
 ///
 /// Puts the questions 1 to 6.
 pub fn encode(p: Params, message: &[u8], slack: &[u8], codeword: &mut [u8]) -> Result<(), Refusal> {
@@ -443,8 +446,9 @@ pub fn reconfigure(
     })
 }
 
-/// Compares all blocks of `codeword` (n·b bytes) with what the blocks of the
-/// nodes 1 to r tell: `None` if they agree, else the lowest node that differs.
+/// Compares all blocks of `codeword` (n·b bytes) with what those of the nodes 1
+/// to r give: `None` if they agree, else the lowest node that differs. That need
+/// not be the damaged one: with node 1 damaged it is a sound one.
 ///
 /// Puts the questions 1 to 6.
 pub fn check(p: Params, codeword: &[u8]) -> Result<Option<u8>, Refusal> {
