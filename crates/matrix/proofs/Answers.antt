@@ -8,10 +8,10 @@ use lib.Dec.{T, leb, eqb}
 use lib.ListN.{length}
 use borrow.Author.Tests.{le-leb}
 use Rattle.base.specs.Gate.{Question, firstNo}
-use Rattle.matrix.specs.Matrix.{IsInverse, Singular, Dependent}
+use Rattle.matrix.specs.Matrix.{IsInverse, Dependent}
 use Rattle.matrix.specs.Invert.{sideAsked, lengthsAsked, inverseAsked, InvertPost}
 use Rattle.matrix.specs.declared.Inversion.the-variants.{Inverted, Singular as SingularAt, Refused}
-use Rattle.matrix.proofs.Laws.{Open, gate-open, not-singular}
+use Rattle.matrix.proofs.Laws.{Open, gate-open, not-singular, dependent-singular}
 
 refused : (s q : ℕ) (m old : List ℕ) → ((rest : List Question) → firstNo (sideAsked s ∷ lengthsAsked s m old ∷ rest) ≡ q) → (q ≡ 0 → ⊥)
     → (q ≡ 15 → ⊥) → InvertPost s m old (Refused q) old
@@ -52,12 +52,12 @@ module _ (s : ℕ) (m old : List ℕ) (o : Open s m old) where
         proper = tt;
       }
 
-  pub answered-singular : (c : ℕ) → Singular s m → Dependent s m c → InvertPost s m old (SingularAt c) old
+  pub answered-singular : (c : ℕ) → Dependent s m c → InvertPost s m old (SingularAt c) old
   unfolding firstNo
-  answered-singular c g d =
+  answered-singular c d =
       record {
         hasInverse = false;
-        asked = λ none. (λ e. g, λ x. refl);
+        asked = λ none. (λ e. dependent-singular s m c d, λ x. refl);
         first = sym (gate-open s m old (inverseAsked false ∷ []) o);
         served = λ e. absurd (omega arith);
         refused = λ ne. refl;

@@ -1,5 +1,5 @@
 -- From the working matrix to the matrix and its inverse: for z = x ++ y the start [m | 1] takes z to zero exactly where m takes x to y, and the end
--- [1 | n] exactly where n takes y to x. A column without a pivot gives a vector that is taken to zero. Assumes nothing.
+-- [1 | n] exactly where n takes y to x. A column without a pivot is the sum of those before it, each times what stands above the missing pivot. Assumes nothing.
 use mathlib.Core.Path.{_≡_, sym, ap, ap₂, _∙_, subst}
 use mathlib.Core.Bool.{Bool}
 use mathlib.Core.List.{List, _++_}
@@ -9,24 +9,24 @@ use native.Mathlib.Nat.{zero-lt-suc}
 use native.Mathlib.Numerals.{add-one}
 use native.Mathlib.Omega.{arith}
 use lib.Dec.{ltb}
-use lib.ListN.{length, getD, replicate, length-replicate, getD-replicate, List·getD-append}
+use lib.ListN.{length, getD, List·getD-append}
 use lib.Seq.{getD-append-add}
 use borrow.Author.Tests.{lt-ltb, le-ltb}
 use Rattle.base.specs.Gate.{orElse}
 use Rattle.base.specs.Seq.{tabulate}
 use Rattle.base.proofs.Cases.{lt-or}
-use Rattle.base.proofs.Seq.{length-tabulate, getD-tabulate}
+use Rattle.base.proofs.Seq.{getD-tabulate}
 use Rattle.field.specs.Field.{IsByte, Bytes, add, mul}
 use Rattle.field.specs.FiniteSum.{sum}
-use Rattle.field.proofs.Addition.{add-byte, add-self, add-zero-left, add-zero-right, add-zero-eq, add-eq-zero}
+use Rattle.field.proofs.Addition.{add-self, add-zero-left, add-zero-right, add-zero-eq, add-eq-zero}
 use Rattle.field.proofs.Multiplication.{mul-add-right, mul-zero-right}
 use Rattle.field.proofs.FiniteSum.{sum-ext, sum-add, sum-split}
-use Rattle.matrix.specs.Matrix.{Vector, entry, apply, column, IsInverse, Singular, Dependent}
+use Rattle.matrix.specs.Matrix.{Vector, entry, apply, column, IsInverse, Dependent}
 use Rattle.matrix.specs.Product.{unit}
 use Rattle.matrix.specs.Working.{grid, Loaded, Kills, Units, Reduced, StuckAt}
-use Rattle.matrix.proofs.Identity.{unit-same, unit-other, unit-byte, unit-sum, sum-unit}
+use Rattle.matrix.proofs.Identity.{unit-other, unit-sum, sum-unit}
 use Rattle.matrix.proofs.Kernel.{against}
-use Rattle.matrix.proofs.Laws.{vector-tabulate, apply-entry, apply-tabulate, apply-is, apply-at}
+use Rattle.matrix.proofs.Laws.{vector-tabulate, length-column, column-at, apply-entry, apply-tabulate, apply-is, apply-at}
 
 loaded-against : (s : ℕ) (m w : List ℕ) → Loaded s m w → (z : ℕ → ℕ) (i : ℕ) → i < s → IsByte (z (s + i))
     → against s w i z ≡ add (sum s (λ k. mul (entry s m i k) (z k))) (z (s + i))
@@ -155,25 +155,8 @@ module _ (s j : ℕ) (m start end : List ℕ) (loaded : Loaded s m start) (stuck
   apply-given f v e h =
       apply-is s m (tabulate s f) v e (λ i hi. sym (apply-entry s m (tabulate s f) i hi) ∙ apply-tabulate s m f i hi ∙ h i hi)
 
-  pub singular : Singular s m
-  unfolding kernel
-  singular =
-      record {
-        vector = tabulate s kernel;
-        sized = vector-tabulate s kernel (λ k. add-byte (above k) (unit k j) (above-byte k) (unit-byte k j));
-        nonzero =
-            λ e.
-            let one : kernel j ≡ 1 = ap₂ add (above-high j (omega arith)) (unit-same j) ∙ add-zero-left 1 in
-            let none : kernel j ≡ 0 =
-            sym (getD-tabulate s kernel j (stuck .within)) ∙ ap (λ (l : List ℕ). getD l j 0) e ∙ getD-replicate {A = ℕ} s j 0 0 (stuck .within) in
-            omega arith;
-        taken =
-            apply-given kernel (replicate s 0) (length-replicate {A = ℕ} s 0)
-            (λ i hi. kernel-row i hi ∙ sym (getD-replicate {A = ℕ} s i 0 0 hi));
-      }
-
   pub dependent : Dependent s m (j + 1)
-  unfolding column entry
+  unfolding entry
   dependent =
       record {
         place = j;
@@ -183,8 +166,8 @@ module _ (s j : ℕ) (m start end : List ℕ) (loaded : Loaded s m start) (stuck
         sized = vector-tabulate s above above-byte;
         others = getD-tabulate s above j (stuck .within) ∙ above-high j (omega arith);
         combined =
-            apply-given above (column s m j) (length-tabulate s _)
+            apply-given above (column s m j) (length-column s m j)
             (λ i hi.
             add-zero-eq _ _ (sym (split-kernel s (entry s m i) (stuck .within) (hm (i * s + j))) ∙ kernel-row i hi)
-            ∙ sym (getD-tabulate s (λ i. entry s m i j) i hi));
+            ∙ sym (column-at s m j i hi));
       }

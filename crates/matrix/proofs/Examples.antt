@@ -1,13 +1,12 @@
 -- Both ends exist: the matrix 00 of side 1 has no inverse, its column 1 being 00; the matrix 02 has the inverse 8E. Assumes nothing.
-use mathlib.Core.Path.{_≡_, refl, ap}
-use mathlib.Core.List.{List, [], _∷_}
+use mathlib.Core.Path.{refl}
+use mathlib.Core.List.{[], _∷_}
 use Prim.Native.Nat.{ℕ, zero, suc}
 use native.Mathlib.Omega.{arith}
-use lib.ListN.{getD}
 use Rattle.base.specs.Seq.{tabulate, blocks}
 use Rattle.field.specs.Field.{IsByte, Bytes, mul}
 use Rattle.field.specs.FiniteSum.{sum}
-use Rattle.matrix.specs.Matrix.{entry, apply, column, IsInverse, Singular, Dependent}
+use Rattle.matrix.specs.Matrix.{entry, apply, column, IsInverse, Dependent}
 use Rattle.matrix.specs.Invert.{InvertPost}
 use Rattle.matrix.specs.Product.{unit, identity, product}
 use Rattle.matrix.specs.declared.Inversion.the-variants.{Inverted, Singular as SingularAt}
@@ -17,16 +16,6 @@ use Rattle.matrix.proofs.Answers.{answered-inverse, answered-singular}
 one-byte : (a : ℕ) → IsByte a → Bytes (a ∷ [])
 one-byte a h zero = h
 one-byte a h (suc i) = omega arith
-
-zero-singular : Singular 1 (0 ∷ [])
-unfolding apply tabulate sum entry mul
-zero-singular =
-    record {
-      vector = 1 ∷ [];
-      sized = record { count = refl; bytes = one-byte 1 (omega arith) };
-      nonzero = λ e. let z : _≡_ {A = ℕ} 1 0 = ap (λ (l : List ℕ). getD l 0 0) e in omega arith;
-      taken = refl;
-    }
 
 zero-dependent : Dependent 1 (0 ∷ []) 1
 unfolding apply column tabulate sum entry mul
@@ -47,7 +36,7 @@ two-inverse = inverse-by-products 1 (2 ∷ []) (0x8e ∷ []) refl (one-byte 0x8e
 
 pub zero-refused : (a : ℕ) → InvertPost 1 (0 ∷ []) (a ∷ []) (SingularAt 1) (a ∷ [])
 zero-refused a =
-    answered-singular 1 (0 ∷ []) (a ∷ []) (record { low = omega arith; high = omega arith; matrix = refl; buffer = refl }) 1 zero-singular zero-dependent
+    answered-singular 1 (0 ∷ []) (a ∷ []) (record { low = omega arith; high = omega arith; matrix = refl; buffer = refl }) 1 zero-dependent
 
 pub two-answered : (a : ℕ) → InvertPost 1 (2 ∷ []) (a ∷ []) Inverted (0x8e ∷ [])
 two-answered a =

@@ -17,13 +17,14 @@ use Rattle.base.proofs.Questions.{first, stopped}
 use Rattle.base.proofs.Seq.{length-tabulate, getD-tabulate, length-blocks, cell-blocks, cells-ext}
 use Rattle.field.specs.Field.{IsByte, Bytes, add, mul}
 use Rattle.field.specs.FiniteSum.{sum}
+use Rattle.field.proofs.Addition.{add-byte, add-self, add-zero-left}
 use Rattle.field.proofs.Multiplication.{mul-add-right, mul-assoc, mul-byte, mul-zero-right}
 use Rattle.field.proofs.FiniteSum.{sum-byte, sum-ext, sum-zeros, sum-add, mul-sum, sum-mul, sum-exchange}
-use Rattle.matrix.specs.Matrix.{Vector, entry, apply, IsInverse, Singular}
+use Rattle.matrix.specs.Matrix.{Vector, entry, apply, column, IsInverse, Singular, Dependent}
 use Rattle.matrix.specs.Invert.{number, sideAsked, lengthsAsked, inverseAsked, InvertPost}
 use Rattle.matrix.specs.Product.{unit, identity, product, plus}
 use Rattle.matrix.specs.declared.Inversion.{Inversion}
-use Rattle.matrix.proofs.Identity.{unit-byte, unit-sum, sum-unit}
+use Rattle.matrix.proofs.Identity.{unit-same, unit-byte, unit-sum, sum-unit}
 
 -- ---- lists by their entries
 
@@ -97,6 +98,14 @@ apply-plus s m u v =
     ∙ sum-add s (λ j. mul (entry s m i j) (getD u j 0)) (λ j. mul (entry s m i j) (getD v j 0))
     ∙ sym (ap₂ add (apply-entry s m u i hi) (apply-entry s m v i hi))
     ∙ sym (getD-tabulate s (λ i. add (getD (apply s m u) i 0) (getD (apply s m v) i 0)) i hi))
+
+pub length-column : (s : ℕ) (m : List ℕ) (j : ℕ) → length (column s m j) ≡ s
+unfolding column
+length-column s m j = length-tabulate s _
+
+pub column-at : (s : ℕ) (m : List ℕ) (j i : ℕ) → i < s → getD (column s m j) i 0 ≡ entry s m i j
+unfolding column
+column-at s m j i hi = getD-tabulate s (λ i. entry s m i j) i hi
 
 -- ---- product and identity
 
@@ -219,6 +228,44 @@ inverse-by-products s m n en hn right left =
                 ap (apply s m) e ∙ sym (apply-product s m n y) ∙ ap (λ (l : List ℕ). apply s l y) right ∙ apply-identity s y hy,
           );
     }
+
+-- ---- a dependent column
+
+-- a matrix with a dependent column is singular: the multiples, with 1 for the column itself, are taken to zero
+pub dependent-singular : (s : ℕ) (m : List ℕ) (c : ℕ) → Dependent s m c → Singular s m
+dependent-singular s m c d =
+    record {
+      vector = tabulate s weight;
+      sized = vector-tabulate s weight (λ k. add-byte (getD (d .multiples) k 0) (unit k (d .place)) (d .sized .bytes k) (unit-byte k (d .place)));
+      nonzero =
+          λ e.
+          let one : weight (d .place) ≡ 1 = ap₂ add (d .others) (unit-same (d .place)) ∙ add-zero-left 1 in
+          let none : weight (d .place) ≡ 0 =
+          sym (getD-tabulate s weight (d .place) (d .within)) ∙ ap (λ (l : List ℕ). getD l (d .place) 0) e
+          ∙ getD-replicate {A = ℕ} s (d .place) 0 0 (d .within) in
+          omega arith;
+      taken =
+          vector-ext s (apply s m (tabulate s weight)) (replicate s 0) (length-apply s m (tabulate s weight)) (length-replicate {A = ℕ} s 0)
+          (λ i hi.
+          apply-tabulate s m weight i hi ∙ split i
+          ∙ ap₂ add (apply-at s m (d .multiples) (column s m (d .place)) (d .combined) i hi ∙ column-at s m (d .place) i hi)
+          (sum-unit s (d .place) (entry s m i) (d .within) (entry-byte i hi))
+          ∙ add-self (entry s m i (d .place)) ∙ sym (getD-replicate {A = ℕ} s i 0 0 hi));
+    }
+  where
+    weight : ℕ → ℕ
+    weight k = add (getD (d .multiples) k 0) (unit k (d .place))
+
+    split : (i : ℕ) → sum s (λ k. mul (entry s m i k) (weight k))
+        ≡ add (sum s (λ k. mul (entry s m i k) (getD (d .multiples) k 0))) (sum s (λ k. mul (entry s m i k) (unit k (d .place))))
+    split i =
+        sum-ext s (λ k. mul (entry s m i k) (weight k)) (λ k. add (mul (entry s m i k) (getD (d .multiples) k 0)) (mul (entry s m i k) (unit k (d .place))))
+        (λ k hk. mul-add-right (entry s m i k) (getD (d .multiples) k 0) (unit k (d .place)))
+        ∙ sum-add s (λ k. mul (entry s m i k) (getD (d .multiples) k 0)) (λ k. mul (entry s m i k) (unit k (d .place)))
+
+    entry-byte : (i : ℕ) → i < s → IsByte (entry s m i (d .place))
+    entry-byte i hi =
+        subst IsByte (ap (λ (l : List ℕ). getD l i 0) (d .combined) ∙ column-at s m (d .place) i hi) (apply-vector s m (d .multiples) .bytes i)
 
 -- ---- for callers of `invert`
 

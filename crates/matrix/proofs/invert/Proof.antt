@@ -8,7 +8,7 @@ use Rattle.matrix.specs.Working.{Ended}
 use Rattle.base.proofs.Seq.{zeros-at}
 use Rattle.matrix.proofs.Loading.{area}
 use Rattle.matrix.proofs.Laws.{Open}
-use Rattle.matrix.proofs.Bridge.{singular, dependent, inverted}
+use Rattle.matrix.proofs.Bridge.{dependent, inverted}
 use Rattle.matrix.proofs.Answers.{refused-side, refused-lengths, answered-inverse, answered-singular}
 use Rattle.matrix.proofs.invert.Statement.{statement}
 use Rattle.matrix.proofs.invert.Tie as tie
@@ -64,7 +64,7 @@ returns-5 c =
     let k = s .before .before .before .before .before in
     let known : Bytes (k .before .args .m .now) = λ i. omega (arith, k .shared-slice-known .given i) in
     let stuck = subst (Ended _ _ _) (c .before .column .given .1) (e .eliminate .ensures) in
-    answered-singular _ _ _ (asked s) _ (singular _ _ _ _ _ (a .load .ensures) stuck known) (dependent _ _ _ _ _ (a .load .ensures) stuck known)
+    answered-singular _ _ _ (asked s) _ (dependent _ _ _ _ _ (a .load .ensures) stuck known)
 
 enum-told : tie.Need-enum-told
 enum-told c = search needs
