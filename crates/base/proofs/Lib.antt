@@ -1,5 +1,6 @@
 pub mod Cases
 pub mod Test
+pub mod Below
 pub mod Seq
 pub mod Filled
 pub mod Parts

@@ -4,14 +4,14 @@ use mathlib.Core.Path.{_≡_, refl, sym, ap, ap₂, _∙_, subst}
 use mathlib.Core.Bool.{Bool, true, false}
 use mathlib.Core.List.{List, [], _∷_, _++_}
 use mathlib.Core.Logic.{⊎-elim}
-use Prim.Native.Nat.{ℕ, zero, suc, _+_, _*_, _≤_, _<_}
+use Prim.Native.Nat.{ℕ, zero, suc, _+_, _*_, _/_, _%_, _≤_, _<_}
 use native.Mathlib.Nat.{zero-lt-suc}
 use native.Mathlib.Omega.{arith}
 use lib.ListN.{length, getD, replicate, length-replicate, getD-replicate, List·getD-eq-default}
 use lib.Seq.{ext-getD}
 use borrow.Author.Tests.{le-leb, eq-eqb}
 use Rattle.base.specs.Gate.{Question, firstNo}
-use Rattle.base.specs.Seq.{tabulate, cell}
+use Rattle.base.specs.Seq.{tabulate, cell, blocks}
 use Rattle.base.proofs.Cases.{lt-or, eq-or}
 use Rattle.base.proofs.Questions.{first, stopped}
 use Rattle.base.proofs.Seq.{length-tabulate, getD-tabulate, length-blocks, cell-blocks, cells-ext}
@@ -40,7 +40,7 @@ vector-tabulate s f hf =
       bytes = bytes-of s (tabulate s f) (length-tabulate s f) (λ i hi. subst IsByte (sym (getD-tabulate s f i hi)) (hf i));
     }
 
-vector-ext : (s : ℕ) (v w : List ℕ) → length v ≡ s → length w ≡ s → ((i : ℕ) → i < s → getD v i 0 ≡ getD w i 0) → v ≡ w
+pub vector-ext : (s : ℕ) (v w : List ℕ) → length v ≡ s → length w ≡ s → ((i : ℕ) → i < s → getD v i 0 ≡ getD w i 0) → v ≡ w
 vector-ext s v w ev ew h = ext-getD 0 v w (ev ∙ sym ew) (λ i hi. h i (subst (λ (n : ℕ). i < n) ev hi))
 
 -- matrices with equal entries are equal
@@ -118,9 +118,26 @@ pub product-entry : (s : ℕ) (m n : List ℕ) (i j : ℕ) → i < s → j < s
 unfolding product cell entry
 product-entry s m n i j hi hj = cell-blocks s s (λ i j. sum s (λ k. mul (entry s m i k) (entry s n k j))) i j hi hj
 
+pub product-bytes : (s : ℕ) (m n : List ℕ) → Bytes (product s m n)
+unfolding product blocks
+product-bytes s m n = vector-tabulate (s * s) _ (λ i. sum-byte s _ (λ k hk. mul-byte (entry s m (i / s) k) (entry s n k (i % s)))) .bytes
+
+-- the columns of a product are what the first matrix takes the second's to
+pub apply-column : (s : ℕ) (m n : List ℕ) (j : ℕ) → j < s → apply s m (column s n j) ≡ column s (product s m n) j
+apply-column s m n j hj =
+    apply-is s m (column s n j) (column s (product s m n) j) (length-column s (product s m n) j)
+    (λ i hi.
+    sum-ext s (λ k. mul (entry s m i k) (getD (column s n j) k 0)) (λ k. mul (entry s m i k) (entry s n k j))
+    (λ k hk. ap (mul (entry s m i k)) (column-at s n j k hk))
+    ∙ sym (column-at s (product s m n) j i hi ∙ product-entry s m n i j hi hj))
+
 pub length-identity : (s : ℕ) → length (identity s) ≡ s * s
 unfolding identity
 length-identity s = length-blocks s s unit
+
+pub identity-bytes : (s : ℕ) → Bytes (identity s)
+unfolding identity blocks
+identity-bytes s = vector-tabulate (s * s) _ (λ i. unit-byte (i / s) (i % s)) .bytes
 
 pub identity-entry : (s i j : ℕ) → i < s → j < s → entry s (identity s) i j ≡ unit i j
 unfolding identity cell entry

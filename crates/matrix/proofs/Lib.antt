@@ -5,4 +5,5 @@ mod Kernel
 mod Loading
 mod Bridge
 mod Answers
+pub mod Existence
 pub mod Examples
