@@ -1,7 +1,7 @@
 -- A square matrix of bytes, of any side, has an inverse or a dependent column: so one that takes no vector but 00 to 00 has an inverse, and `invert` has an answer
 -- to everything. Induction on the columns that are not yet the identity's. Let d be the first of them, column t. Where d is zero from row t on, it is the sum of the
 -- columns before it, each times d's entry. Else a linear form f that is 0 on the columns before, not 0 on e, column t of the identity, and 1 on d makes a map
--- x ↦ x + f(x)·(d + e): it keeps the columns before, takes d to e, and is one to one, f(x) being f(e) times smaller than f of its value. Assumes nothing.
+-- x ↦ x + f(x)·(d + e): it keeps the columns before, takes d to e, and is one to one, since f takes its value to f(e)·f(x). Assumes nothing.
 use mathlib.Core.Path.{_≡_, refl, sym, ap, ap₂, _∙_, subst}
 use mathlib.Core.List.{List}
 use mathlib.Core.Logic.{_⊎_, inl, inr, ⊎-elim}
@@ -42,25 +42,26 @@ twice a b = sym (add-assoc a a b) ∙ ap (λ (x : ℕ). add x b) (add-self a) �
 
 -- ---- x ↦ x + f(x)·(d + e)
 
+-- d + e
+rise : ℕ → (ℕ → ℕ) → ℕ → ℕ
+rise t d i = add (d i) (unit i t)
+
 module _ (s t : ℕ) (d f : ℕ → ℕ) where
-  rise : ℕ → ℕ
-  rise i = add (d i) (unit i t)
-
   step : List ℕ
-  step = blocks s s (λ i k. add (unit i k) (mul (rise i) (f k)))
+  step = blocks s s (λ i k. add (unit i k) (mul (rise t d i) (f k)))
 
-  step-entry : (i k : ℕ) → i < s → k < s → entry s step i k ≡ add (unit i k) (mul (rise i) (f k))
+  step-entry : (i k : ℕ) → i < s → k < s → entry s step i k ≡ add (unit i k) (mul (rise t d i) (f k))
   unfolding step entry cell
-  step-entry i k hi hk = cell-blocks s s (λ i k. add (unit i k) (mul (rise i) (f k))) i k hi hk
+  step-entry i k hi hk = cell-blocks s s (λ i k. add (unit i k) (mul (rise t d i) (f k))) i k hi hk
 
-  step-row : (z : ℕ → ℕ) (i : ℕ) → i < s → IsByte (z i) → form s (entry s step i) z ≡ add (z i) (mul (rise i) (form s f z))
+  step-row : (z : ℕ → ℕ) (i : ℕ) → i < s → IsByte (z i) → form s (entry s step i) z ≡ add (z i) (mul (rise t d i) (form s f z))
   step-row z i hi byte =
-      sum-ext s (λ k. mul (entry s step i k) (z k)) (λ k. add (mul (unit i k) (z k)) (mul (rise i) (mul (f k) (z k))))
+      sum-ext s (λ k. mul (entry s step i k) (z k)) (λ k. add (mul (unit i k) (z k)) (mul (rise t d i) (mul (f k) (z k))))
       (λ k hk.
-      ap (λ (x : ℕ). mul x (z k)) (step-entry i k hi hk) ∙ mul-add-left (unit i k) (mul (rise i) (f k)) (z k)
-      ∙ ap (add (mul (unit i k) (z k))) (mul-assoc (rise i) (f k) (z k)))
-      ∙ sum-add s (λ k. mul (unit i k) (z k)) (λ k. mul (rise i) (mul (f k) (z k)))
-      ∙ ap₂ add (unit-sum s i z hi byte) (sym (mul-sum s (rise i) (λ k. mul (f k) (z k))))
+      ap (λ (x : ℕ). mul x (z k)) (step-entry i k hi hk) ∙ mul-add-left (unit i k) (mul (rise t d i) (f k)) (z k)
+      ∙ ap (add (mul (unit i k) (z k))) (mul-assoc (rise t d i) (f k) (z k)))
+      ∙ sum-add s (λ k. mul (unit i k) (z k)) (λ k. mul (rise t d i) (mul (f k) (z k)))
+      ∙ ap₂ add (unit-sum s i z hi byte) (sym (mul-sum s (rise t d i) (λ k. mul (f k) (z k))))
 
 -- what f must be
 record Form (s t : ℕ) (d f : ℕ → ℕ) : Type 0 where
@@ -71,20 +72,20 @@ record Form (s t : ℕ) (d f : ℕ → ℕ) : Type 0 where
   one : form s f d ≡ 1
 
 module _ (s t : ℕ) (d f : ℕ → ℕ) (h : Form s t d f) where
-  form-rise : form s f (rise s t d f) ≡ add 1 (f t)
+  form-rise : form s f (rise t d) ≡ add 1 (f t)
   unfolding rise
   form-rise =
-      sum-ext s (λ k. mul (f k) (rise s t d f k)) (λ k. add (mul (f k) (d k)) (mul (f k) (unit k t))) (λ k hk. mul-add-right (f k) (d k) (unit k t))
+      sum-ext s (λ k. mul (f k) (rise t d k)) (λ k. add (mul (f k) (d k)) (mul (f k) (unit k t))) (λ k hk. mul-add-right (f k) (d k) (unit k t))
       ∙ sum-add s (λ k. mul (f k) (d k)) (λ k. mul (f k) (unit k t))
       ∙ ap₂ add (h .one) (sum-unit s t f (h .within) (h .bytes t))
 
-  form-step : (z : ℕ → ℕ) → form s f (λ k. add (z k) (mul (rise s t d f k) (form s f z))) ≡ mul (f t) (form s f z)
+  form-step : (z : ℕ → ℕ) → form s f (λ k. add (z k) (mul (rise t d k) (form s f z))) ≡ mul (f t) (form s f z)
   form-step z =
-      sum-ext s (λ k. mul (f k) (add (z k) (mul (rise s t d f k) c))) (λ k. add (mul (f k) (z k)) (mul (mul (f k) (rise s t d f k)) c))
-      (λ k hk. mul-add-right (f k) (z k) (mul (rise s t d f k) c) ∙ ap (add (mul (f k) (z k))) (sym (mul-assoc (f k) (rise s t d f k) c)))
-      ∙ sum-add s (λ k. mul (f k) (z k)) (λ k. mul (mul (f k) (rise s t d f k)) c)
+      sum-ext s (λ k. mul (f k) (add (z k) (mul (rise t d k) c))) (λ k. add (mul (f k) (z k)) (mul (mul (f k) (rise t d k)) c))
+      (λ k hk. mul-add-right (f k) (z k) (mul (rise t d k) c) ∙ ap (add (mul (f k) (z k))) (sym (mul-assoc (f k) (rise t d k) c)))
+      ∙ sum-add s (λ k. mul (f k) (z k)) (λ k. mul (mul (f k) (rise t d k)) c)
       ∙ ap (add c)
-      (sym (sum-mul s c (λ k. mul (f k) (rise s t d f k))) ∙ ap (λ (x : ℕ). mul x c) form-rise ∙ mul-add-left 1 (f t) c
+      (sym (sum-mul s c (λ k. mul (f k) (rise t d k))) ∙ ap (λ (x : ℕ). mul x c) form-rise ∙ mul-add-left 1 (f t) c
       ∙ ap (λ (x : ℕ). add x (mul (f t) c)) (mul-one-left c (form-byte s f z)))
       ∙ twice c (mul (f t) c)
     where
@@ -100,7 +101,7 @@ module _ (s t : ℕ) (d f : ℕ → ℕ) (h : Form s t d f) where
       ∙ add-cancel (getD w i 0) (mul (u i) (c v)))
     where
       u : ℕ → ℕ
-      u = rise s t d f
+      u = rise t d
 
       c : List ℕ → ℕ
       c x = form s f (λ k. getD x k 0)
@@ -190,27 +191,27 @@ module _ (s t p : ℕ) (d : ℕ → ℕ) (bytes : (k : ℕ) → IsByte (d k)) (l
 abbrev First : ℕ → ℕ → List ℕ → Type 0
 First s t m = (i k : ℕ) → i < s → k < t → entry s m i k ≡ unit i k
 
-abbrev pub Settled : ℕ → List ℕ → Type 0
-Settled s m = ((n : List ℕ) × IsInverse s m n) ⊎ ((c : ℕ) × Dependent s m c)
+-- an inverse, or a column that is a sum of multiples of the others; not both, by `not-singular` and `dependent-singular`
+abbrev pub Alternative : ℕ → List ℕ → Type 0
+Alternative s m = ((n : List ℕ) × IsInverse s m n) ⊎ ((c : ℕ) × Dependent s m c)
 
 module _ (s t : ℕ) (m : List ℕ) (hm : Bytes m) (first : First s t m) where
   d : ℕ → ℕ
   d k = entry s m k t
 
   entry-byte : (i k : ℕ) → IsByte (entry s m i k)
-  unfolding entry
-  entry-byte i k = hm (i * s + k)
+  entry-byte i k = L.entry-byte s m i k hm
 
   -- a column that is zero from row t on
   no-pivot : t < s → ((k : ℕ) → k < s → t ≤ k → d k ≡ 0) → Dependent s m (suc t)
-  unfolding d column
+  unfolding d
   no-pivot ht none =
       record {
         place = t;
         counted = refl;
         within = ht;
         multiples = column s m t;
-        sized = L.vector-tabulate s _ (λ i. entry-byte i t);
+        sized = L.column-vector s m t hm;
         others = L.column-at s m t t ht ∙ none t ht (omega arith);
         combined =
             L.apply-is s m (column s m t) (column s m t) (L.length-column s m t)
@@ -227,7 +228,7 @@ module _ (s t : ℕ) (m : List ℕ) (hm : Bytes m) (first : First s t m) where
     next : List ℕ
     next = product s (step s t d f) m
 
-    next-entry : (i k : ℕ) → i < s → k < s → entry s next i k ≡ add (entry s m i k) (mul (rise s t d f i) (form s f (λ j. entry s m j k)))
+    next-entry : (i k : ℕ) → i < s → k < s → entry s next i k ≡ add (entry s m i k) (mul (rise t d i) (form s f (λ j. entry s m j k)))
     unfolding next
     next-entry i k hi hk = L.product-entry s (step s t d f) m i k hi hk ∙ step-row s t d f (λ j. entry s m j k) i hi (entry-byte i k)
 
@@ -239,22 +240,22 @@ module _ (s t : ℕ) (m : List ℕ) (hm : Bytes m) (first : First s t m) where
     unfolding d rise
     next-first i k hi hk = next-entry i k hi (omega (arith, h .within)) ∙ ⊎-elim kept taken (lt-or k t)
       where
-        kept : k < t → add (entry s m i k) (mul (rise s t d f i) (form s f (λ j. entry s m j k))) ≡ unit i k
+        kept : k < t → add (entry s m i k) (mul (rise t d i) (form s f (λ j. entry s m j k))) ≡ unit i k
         kept low =
-            ap (λ (x : ℕ). add (entry s m i k) (mul (rise s t d f i) x))
+            ap (λ (x : ℕ). add (entry s m i k) (mul (rise t d i) x))
             (sum-ext s (λ j. mul (f j) (entry s m j k)) (λ j. mul (f j) (unit j k)) (λ j hj. ap (mul (f j)) (first j k hj low))
             ∙ sum-unit s k f (omega (arith, h .within)) (h .bytes k) ∙ h .before k low)
-            ∙ ap (add (entry s m i k)) (mul-zero-right (rise s t d f i)) ∙ add-zero-right (entry s m i k) ∙ first i k hi low
+            ∙ ap (add (entry s m i k)) (mul-zero-right (rise t d i)) ∙ add-zero-right (entry s m i k) ∙ first i k hi low
 
-        taken : t ≤ k → add (entry s m i k) (mul (rise s t d f i) (form s f (λ j. entry s m j k))) ≡ unit i k
+        taken : t ≤ k → add (entry s m i k) (mul (rise t d i) (form s f (λ j. entry s m j k))) ≡ unit i k
         taken high =
             let same : t ≡ k = omega arith in
-            subst (λ (k : ℕ). add (entry s m i k) (mul (rise s t d f i) (form s f (λ j. entry s m j k))) ≡ unit i k) same
-            (ap (λ (x : ℕ). add (d i) (mul (rise s t d f i) x)) (h .one)
-            ∙ ap (add (d i)) (mul-one-right (rise s t d f i) (add-byte (d i) (unit i t) (entry-byte i t) (unit-byte i t)))
+            subst (λ (k : ℕ). add (entry s m i k) (mul (rise t d i) (form s f (λ j. entry s m j k))) ≡ unit i k) same
+            (ap (λ (x : ℕ). add (d i) (mul (rise t d i) x)) (h .one)
+            ∙ ap (add (d i)) (mul-one-right (rise t d i) (add-byte (d i) (unit i t) (entry-byte i t) (unit-byte i t)))
             ∙ twice (d i) (unit i t))
 
-    -- what is settled of the next matrix is settled of this one
+    -- what the next matrix has, this one has
     back-inverse : (n : List ℕ) → IsInverse s next n → IsInverse s m (product s n (step s t d f))
     unfolding next
     back-inverse n inv =
@@ -275,7 +276,7 @@ module _ (s t : ℕ) (m : List ℕ) (hm : Bytes m) (first : First s t m) where
         }
 
     back-dependent : (c : ℕ) → Dependent s next c → Dependent s m c
-    unfolding next column
+    unfolding next
     back-dependent c p =
         record {
           place = p .place;
@@ -286,11 +287,11 @@ module _ (s t : ℕ) (m : List ℕ) (hm : Bytes m) (first : First s t m) where
           others = p .others;
           combined =
               one-to-one s t d f h (apply s m (p .multiples)) (column s m (p .place)) (L.apply-vector s m (p .multiples))
-              (L.vector-tabulate s _ (λ i. entry-byte i (p .place)))
+              (L.column-vector s m (p .place) hm)
               (sym (L.apply-product s (step s t d f) m (p .multiples)) ∙ p .combined ∙ sym (L.apply-column s (step s t d f) m (p .place) (p .within)));
         }
 
-  one-column : t < s → ((m′ : List ℕ) → Bytes m′ → First s (suc t) m′ → Settled s m′) → Settled s m
+  one-column : t < s → ((m′ : List ℕ) → Bytes m′ → First s (suc t) m′ → Alternative s m′) → Alternative s m
   unfolding d
   one-column ht onward = ⊎-elim (λ none. inr (suc t, no-pivot ht (zero-from none))) pivot (all-below (λ i. d (t + i) ≡ 0) (λ i. ℕ-discrete _ 0) (s - t))
     where
@@ -299,7 +300,7 @@ module _ (s t : ℕ) (m : List ℕ) (hm : Bytes m) (first : First s t m) where
           let same : t + (k - t) ≡ k = omega arith in
           subst (λ (q : ℕ). d q ≡ 0) same (none (k - t) (omega arith))
 
-      pivot : (j : ℕ) × (j < s - t) × (d (t + j) ≡ 0 → ⊥) × ((i : ℕ) → i < j → d (t + i) ≡ 0) → Settled s m
+      pivot : (j : ℕ) × (j < s - t) × (d (t + j) ≡ 0 → ⊥) × ((i : ℕ) → i < j → d (t + i) ≡ 0) → Alternative s m
       pivot (j, below, some, _) =
           let f = chosen-form s t (t + j) d (λ k. entry-byte k t) (omega arith) (omega arith) some in
           ⊎-elim (λ n. inl (_, back-inverse _ f (n .0) (n .1))) (λ c. inr (c .0, back-dependent _ f (c .0) (c .1)))
@@ -314,42 +315,35 @@ identity-inverse s m first =
       count = L.length-identity s;
       bytes = L.identity-bytes s;
       solves = λ x y hx hy. (
-        λ e. sym (fixed x hx) ∙ e ∙ sym (L.apply-identity s y hy),
-        λ e. fixed x hx ∙ e ∙ L.apply-identity s y hy,
+        λ e. sym (L.apply-units s m x first hx) ∙ e ∙ sym (L.apply-identity s y hy),
+        λ e. L.apply-units s m x first hx ∙ e ∙ L.apply-identity s y hy,
       );
     }
-  where
-    fixed : (x : List ℕ) → Vector s x → apply s m x ≡ x
-    fixed x hx =
-        L.apply-is s m x x (hx .count)
-        (λ i hi.
-        sum-ext s (λ k. mul (entry s m i k) (getD x k 0)) (λ k. mul (unit i k) (getD x k 0)) (λ k hk. ap (λ (e : ℕ). mul e (getD x k 0)) (first i k hi hk))
-        ∙ unit-sum s i (λ k. getD x k 0) hi (hx .bytes i))
 
 -- induction on how many are left
-settle : (left s t : ℕ) (m : List ℕ) → t + left ≡ s → Bytes m → First s t m → Settled s m
-settle zero s t m e hm first = inl (identity s, identity-inverse s m (λ i k hi hk. first i k hi (omega arith)))
-settle (suc left) s t m e hm first =
-    one-column s t m hm first (omega arith) (λ m′ hm′ first′. settle left s (suc t) m′ (omega arith) hm′ first′)
+by-columns : (left s t : ℕ) (m : List ℕ) → t + left ≡ s → Bytes m → First s t m → Alternative s m
+by-columns zero s t m e hm first = inl (identity s, identity-inverse s m (λ i k hi hk. first i k hi (omega arith)))
+by-columns (suc left) s t m e hm first =
+    one-column s t m hm first (omega arith) (λ m′ hm′ first′. by-columns left s (suc t) m′ (omega arith) hm′ first′)
 
-pub settled : (s : ℕ) (m : List ℕ) → Bytes m → Settled s m
-settled s m hm = settle s s 0 m (omega arith) hm (λ i k hi hk. absurd (not-suc-le-zero hk))
+pub alternative : (s : ℕ) (m : List ℕ) → Bytes m → Alternative s m
+alternative s m hm = by-columns s s 0 m (omega arith) hm (λ i k hi hk. absurd (not-suc-le-zero hk))
 
 -- a matrix that takes no vector but 00 to 00 has an inverse
-pub inverse-exists : (s : ℕ) (m : List ℕ) → Bytes m → (Singular s m → ⊥) → (n : List ℕ) × IsInverse s m n
-inverse-exists s m hm none = ⊎-elim (λ n. n) (λ c. absurd (none (L.dependent-singular s m (c .0) (c .1)))) (settled s m hm)
+pub nonsingular-inverse : (s : ℕ) (m : List ℕ) → Bytes m → (Singular s m → ⊥) → (n : List ℕ) × IsInverse s m n
+nonsingular-inverse s m hm none = ⊎-elim (λ n. n) (λ c. absurd (none (L.dependent-singular s m (c .0) (c .1)))) (alternative s m hm)
 
 -- any other has a column that is a sum of multiples of the others
 pub singular-dependent : (s : ℕ) (m : List ℕ) → Bytes m → Singular s m → (c : ℕ) × Dependent s m c
-singular-dependent s m hm g = ⊎-elim (λ n. absurd (L.not-singular s m (n .0) (n .1) g)) (λ c. c) (settled s m hm)
+singular-dependent s m hm g = ⊎-elim (λ n. absurd (L.not-singular s m (n .0) (n .1) g)) (λ c. c) (alternative s m hm)
 
 -- ---- `invert`'s post-condition is met by some answer and buffer, whatever it is given
 
 pub invert-met : (s : ℕ) (m old : List ℕ) → Bytes m → (answer : Inversion) × (new : List ℕ) × InvertPost s m old answer new
-invert-met s m old hm = go (lt-or s 1) (lt-or 32 s) (eq-or (length m) (s * s)) (eq-or (length old) (s * s)) (settled s m hm)
+invert-met s m old hm = go (lt-or s 1) (lt-or 32 s) (eq-or (length m) (s * s)) (eq-or (length old) (s * s)) (alternative s m hm)
   where
     go : (s < 1) ⊎ (1 ≤ s) → (32 < s) ⊎ (s ≤ 32) → (length m ≡ s * s) ⊎ (length m ≡ s * s → ⊥) → (length old ≡ s * s) ⊎ (length old ≡ s * s → ⊥)
-        → Settled s m → (answer : Inversion) × (new : List ℕ) × InvertPost s m old answer new
+        → Alternative s m → (answer : Inversion) × (new : List ℕ) × InvertPost s m old answer new
     go (inl low) _ _ _ _ = (Refused 16, old, refused-side s m old (simp (lt-leb 1 s low)))
     go (inr low) (inl high) _ _ _ = (Refused 16, old, refused-side s m old (simp (le-leb 1 s low, lt-leb s 32 high)))
     go (inr low) (inr high) (inr ne) _ _ = (Refused 6, old, refused-lengths s m old low high (simp (ne-eqb (length m) (s * s) ne)))

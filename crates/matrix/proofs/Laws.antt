@@ -14,7 +14,7 @@ use Rattle.base.specs.Gate.{Question, firstNo}
 use Rattle.base.specs.Seq.{tabulate, cell, blocks}
 use Rattle.base.proofs.Cases.{lt-or, eq-or}
 use Rattle.base.proofs.Questions.{first, stopped}
-use Rattle.base.proofs.Seq.{length-tabulate, getD-tabulate, length-blocks, cell-blocks, cells-ext}
+use Rattle.base.proofs.Seq.{length-tabulate, getD-tabulate, tabulate-ext, tabulate-zeros, length-blocks, cell-blocks, cells-ext}
 use Rattle.field.specs.Field.{IsByte, Bytes, add, mul}
 use Rattle.field.specs.FiniteSum.{sum}
 use Rattle.field.proofs.Addition.{add-byte, add-self, add-zero-left}
@@ -99,6 +99,8 @@ apply-plus s m u v =
     ∙ sym (ap₂ add (apply-entry s m u i hi) (apply-entry s m v i hi))
     ∙ sym (getD-tabulate s (λ i. add (getD (apply s m u) i 0) (getD (apply s m v) i 0)) i hi))
 
+-- ---- columns
+
 pub length-column : (s : ℕ) (m : List ℕ) (j : ℕ) → length (column s m j) ≡ s
 unfolding column
 length-column s m j = length-tabulate s _
@@ -106,6 +108,14 @@ length-column s m j = length-tabulate s _
 pub column-at : (s : ℕ) (m : List ℕ) (j i : ℕ) → i < s → getD (column s m j) i 0 ≡ entry s m i j
 unfolding column
 column-at s m j i hi = getD-tabulate s (λ i. entry s m i j) i hi
+
+pub entry-byte : (s : ℕ) (m : List ℕ) (i j : ℕ) → Bytes m → IsByte (entry s m i j)
+unfolding entry
+entry-byte s m i j hm = hm (i * s + j)
+
+pub column-vector : (s : ℕ) (m : List ℕ) (j : ℕ) → Bytes m → Vector s (column s m j)
+unfolding column
+column-vector s m j hm = vector-tabulate s _ (λ i. entry-byte s m i j hm)
 
 -- ---- product and identity
 
@@ -160,13 +170,16 @@ apply-product s m n v =
     ∙ ap (mul (entry s m i k)) (sym (apply-entry s n v k hk)))
     ∙ sym (apply-entry s m (apply s n v) i hi))
 
-pub apply-identity : (s : ℕ) (v : List ℕ) → Vector s v → apply s (identity s) v ≡ v
-apply-identity s v hv =
-    apply-is s (identity s) v v (hv .count)
+-- a matrix with the identity's entries takes every vector to itself
+pub apply-units : (s : ℕ) (m v : List ℕ) → ((i j : ℕ) → i < s → j < s → entry s m i j ≡ unit i j) → Vector s v → apply s m v ≡ v
+apply-units s m v units hv =
+    apply-is s m v v (hv .count)
     (λ i hi.
-    sum-ext s (λ j. mul (entry s (identity s) i j) (getD v j 0)) (λ j. mul (unit i j) (getD v j 0))
-    (λ j hj. ap (λ (x : ℕ). mul x (getD v j 0)) (identity-entry s i j hi hj))
+    sum-ext s (λ j. mul (entry s m i j) (getD v j 0)) (λ j. mul (unit i j) (getD v j 0)) (λ j hj. ap (λ (x : ℕ). mul x (getD v j 0)) (units i j hi hj))
     ∙ unit-sum s i (λ j. getD v j 0) hi (hv .bytes i))
+
+pub apply-identity : (s : ℕ) (v : List ℕ) → Vector s v → apply s (identity s) v ≡ v
+apply-identity s v hv = apply-units s (identity s) v (identity-entry s) hv
 
 -- column j of the identity
 basis : ℕ → ℕ → List ℕ
@@ -181,9 +194,13 @@ unfolding basis
 basis-vector s j = vector-tabulate s (λ i. unit i j) (λ i. unit-byte i j)
 
 -- the matrix takes it to its own column j
-apply-basis : (s : ℕ) (m : List ℕ) (i j : ℕ) → Bytes m → i < s → j < s → getD (apply s m (basis s j)) i 0 ≡ entry s m i j
-unfolding basis entry
-apply-basis s m i j hm hi hj = apply-tabulate s m (λ i. unit i j) i hi ∙ sum-unit s j (entry s m i) hj (hm (i * s + j))
+apply-basis : (s : ℕ) (m : List ℕ) (j : ℕ) → j < s → Bytes (column s m j) → apply s m (basis s j) ≡ column s m j
+unfolding basis
+apply-basis s m j hj bytes =
+    vector-ext s (apply s m (basis s j)) (column s m j) (length-apply s m (basis s j)) (length-column s m j)
+    (λ i hi.
+    apply-tabulate s m (λ i. unit i j) i hi ∙ sum-unit s j (entry s m i) hj (subst IsByte (column-at s m j i hi) (bytes i))
+    ∙ sym (column-at s m j i hi))
 
 -- a product that takes each column of the identity to itself is the identity
 product-identity : (s : ℕ) (m n : List ℕ) → Bytes n → ((j : ℕ) → j < s → apply s m (apply s n (basis s j)) ≡ basis s j)
@@ -191,11 +208,10 @@ product-identity : (s : ℕ) (m n : List ℕ) → Bytes n → ((j : ℕ) → j <
 product-identity s m n hn h =
     entries-ext s (product s m n) (identity s) (length-product s m n) (length-identity s)
     (λ i j hi hj.
-    product-entry s m n i j hi hj
-    ∙ sum-ext s (λ k. mul (entry s m i k) (entry s n k j)) (λ k. mul (entry s m i k) (getD (apply s n (basis s j)) k 0))
-    (λ k hk. ap (mul (entry s m i k)) (sym (apply-basis s n k j hn hk hj)))
-    ∙ apply-at s m (apply s n (basis s j)) (basis s j) (h j hj) i hi ∙ basis-at s j i hi
-    ∙ sym (identity-entry s i j hi hj))
+    sym (column-at s (product s m n) j i hi)
+    ∙ ap (λ (l : List ℕ). getD l i 0)
+    (sym (apply-column s m n j hj) ∙ ap (apply s m) (sym (apply-basis s n j hj (column-vector s n j hn .bytes))) ∙ h j hj)
+    ∙ basis-at s j i hi ∙ sym (identity-entry s i j hi hj))
 
 -- ---- the inverse
 
@@ -225,10 +241,12 @@ pub inverse-unique : (s : ℕ) (m n n′ : List ℕ) → IsInverse s m n → IsI
 inverse-unique s m n n′ inv inv′ =
     entries-ext s n n′ (inv .count) (inv′ .count)
     (λ i j hi hj.
-    sym (apply-basis s n i j (inv .bytes) hi hj)
+    sym (column-at s n j i hi)
     ∙ ap (λ (l : List ℕ). getD l i 0)
-    (inv′ .solves (apply s n (basis s j)) (basis s j) (apply-vector s n (basis s j)) (basis-vector s j) .0 (takes-back s m n inv (basis s j) (basis-vector s j)))
-    ∙ apply-basis s n′ i j (inv′ .bytes) hi hj)
+    (sym (apply-basis s n j hj (column-vector s n j (inv .bytes) .bytes))
+    ∙ inv′ .solves (apply s n (basis s j)) (basis s j) (apply-vector s n (basis s j)) (basis-vector s j) .0 (takes-back s m n inv (basis s j) (basis-vector s j))
+    ∙ apply-basis s n′ j hj (column-vector s n′ j (inv′ .bytes) .bytes))
+    ∙ column-at s n′ j i hi)
 
 -- what both products show
 pub inverse-by-products : (s : ℕ) (m n : List ℕ) → length n ≡ s * s → Bytes n → product s m n ≡ identity s → product s n m ≡ identity s
@@ -248,43 +266,33 @@ inverse-by-products s m n en hn right left =
 
 -- ---- a dependent column
 
--- a matrix with a dependent column is singular: the multiples, with 1 for the column itself, are taken to zero
+-- the multiples, with 1 for the column itself, are taken to zero
 pub dependent-singular : (s : ℕ) (m : List ℕ) (c : ℕ) → Dependent s m c → Singular s m
+unfolding plus
 dependent-singular s m c d =
     record {
-      vector = tabulate s weight;
-      sized = vector-tabulate s weight (λ k. add-byte (getD (d .multiples) k 0) (unit k (d .place)) (d .sized .bytes k) (unit-byte k (d .place)));
+      vector = plus s (d .multiples) own;
+      sized = vector-tabulate s _ (λ k. add-byte _ _ (d .sized .bytes k) (basis-vector s (d .place) .bytes k));
       nonzero =
           λ e.
-          let one : weight (d .place) ≡ 1 = ap₂ add (d .others) (unit-same (d .place)) ∙ add-zero-left 1 in
-          let none : weight (d .place) ≡ 0 =
-          sym (getD-tabulate s weight (d .place) (d .within)) ∙ ap (λ (l : List ℕ). getD l (d .place) 0) e
-          ∙ getD-replicate {A = ℕ} s (d .place) 0 0 (d .within) in
+          let one : getD (plus s (d .multiples) own) (d .place) 0 ≡ 1 =
+          getD-tabulate s _ (d .place) (d .within) ∙ ap₂ add (d .others) (basis-at s (d .place) (d .place) (d .within) ∙ unit-same (d .place)) ∙ add-zero-left 1 in
+          let none : getD (plus s (d .multiples) own) (d .place) 0 ≡ 0 =
+          ap (λ (l : List ℕ). getD l (d .place) 0) e ∙ getD-replicate {A = ℕ} s (d .place) 0 0 (d .within) in
           omega arith;
       taken =
-          vector-ext s (apply s m (tabulate s weight)) (replicate s 0) (length-apply s m (tabulate s weight)) (length-replicate {A = ℕ} s 0)
-          (λ i hi.
-          apply-tabulate s m weight i hi ∙ split i
-          ∙ ap₂ add (apply-at s m (d .multiples) (column s m (d .place)) (d .combined) i hi ∙ column-at s m (d .place) i hi)
-          (sum-unit s (d .place) (entry s m i) (d .within) (entry-byte i hi))
-          ∙ add-self (entry s m i (d .place)) ∙ sym (getD-replicate {A = ℕ} s i 0 0 hi));
+          apply-plus s m (d .multiples) own
+          ∙ ap (plus s (apply s m (d .multiples))) (apply-basis s m (d .place) (d .within) bytes ∙ sym (d .combined))
+          ∙ tabulate-ext s _ (λ i. 0) (λ i hi. add-self _) ∙ tabulate-zeros s;
     }
   where
-    weight : ℕ → ℕ
-    weight k = add (getD (d .multiples) k 0) (unit k (d .place))
+    own : List ℕ
+    own = basis s (d .place)
 
-    split : (i : ℕ) → sum s (λ k. mul (entry s m i k) (weight k))
-        ≡ add (sum s (λ k. mul (entry s m i k) (getD (d .multiples) k 0))) (sum s (λ k. mul (entry s m i k) (unit k (d .place))))
-    split i =
-        sum-ext s (λ k. mul (entry s m i k) (weight k)) (λ k. add (mul (entry s m i k) (getD (d .multiples) k 0)) (mul (entry s m i k) (unit k (d .place))))
-        (λ k hk. mul-add-right (entry s m i k) (getD (d .multiples) k 0) (unit k (d .place)))
-        ∙ sum-add s (λ k. mul (entry s m i k) (getD (d .multiples) k 0)) (λ k. mul (entry s m i k) (unit k (d .place)))
+    bytes : Bytes (column s m (d .place))
+    bytes = subst Bytes (d .combined) (apply-vector s m (d .multiples) .bytes)
 
-    entry-byte : (i : ℕ) → i < s → IsByte (entry s m i (d .place))
-    entry-byte i hi =
-        subst IsByte (ap (λ (l : List ℕ). getD l i 0) (d .combined) ∙ column-at s m (d .place) i hi) (apply-vector s m (d .multiples) .bytes i)
-
--- ---- for callers of `invert`
+-- ---- the questions of `invert`
 
 -- the first two questions answered yes
 pub record Open (s : ℕ) (m old : List ℕ) : Type 0 where
@@ -299,20 +307,6 @@ pub gate-open : (s : ℕ) (m old : List ℕ) (rest : List Question) → Open s m
 unfolding firstNo
 gate-open s m old rest o =
     simp (le-leb 1 s (o .low), le-leb s 32 (o .high), eq-eqb (length m) (s * s) (o .matrix), eq-eqb (length old) (s * s) (o .buffer))
-
--- a matrix that takes only the zero vector to zero is inverted
-pub accepted : (s : ℕ) (m old new : List ℕ) (answer : Inversion) → InvertPost s m old answer new → Open s m old
-    → ((v : List ℕ) → Vector s v → apply s m v ≡ replicate s 0 → v ≡ replicate s 0) → (number answer ≡ 0) × IsInverse s m new
-unfolding firstNo
-accepted s m old new answer post o only = go (post .hasInverse) refl
-  where
-    go : (b : Bool) → post .hasInverse ≡ b → (number answer ≡ 0) × IsInverse s m new
-    go true e =
-        let none : number answer ≡ 0 =
-        post .first ∙ gate-open s m old (inverseAsked (post .hasInverse) ∷ []) o ∙ ap (λ (b : Bool). firstNo (inverseAsked b ∷ [])) e in
-        (none, post .served none)
-    go false e =
-        let g = post .asked (gate-open s m old [] o) .0 e in absurd (g .nonzero (only (g .vector) (g .sized) (g .taken)))
 
 -- ---- the post-condition settles the answer's number and every byte of the buffer
 
