@@ -1,15 +1,15 @@
 -- Each call's post-condition is met by exactly one answer and one content of its buffer: the answer is the gate's, and each byte of a served buffer is told
 -- through the one pair or the one slack (Pairs.antt). Assumes nothing.
 use mathlib.Core.Path.{_≡_, refl, sym, ap, _∙_, subst}
-use mathlib.Core.Logic.{_⊎_, inl, inr, ⊎-elim}
+use mathlib.Core.Logic.{⊎-elim}
 use mathlib.Core.Bool.{Bool, true, false, cond}
 use mathlib.Core.List.{List, []}
 use Prim.Native.Nat.{ℕ, zero, suc, _*_, _<_}
-use native.Mathlib.Nat.{not-suc-le-zero}
 use native.Mathlib.Omega.{arith}
 use native.Mathlib.Decide.{ℕ-discrete}
 use lib.ListN.{length, getD}
 use Rattle.base.specs.Seq.{cell, blocks}
+use Rattle.base.proofs.Below.{all-below}
 use Rattle.base.proofs.Cases.{lt-or, eq-or}
 use Rattle.base.proofs.Seq.{cell-blocks, length-blocks, cells-ext}
 use Rattle.field.specs.Field.{Bytes, add}
@@ -253,18 +253,6 @@ module _ (a : Params) (t : Shape) (old : List ℕ) (from to : ℕ) (x buffer : L
       (record { length-is = r′ .length-is; passed = r′ .written; other = r′ .copied }))
 
 -- ---- check
-
--- a claim that can be decided, at each number below a bound, and at the lowest where it fails
-all-below : (P : ℕ → Type 0) → ((i : ℕ) → Dec (P i)) → (n : ℕ)
-    → ((i : ℕ) → i < n → P i) ⊎ ((j : ℕ) × (j < n) × (P j → ⊥) × ((i : ℕ) → i < j → P i))
-all-below P dec zero = inl (λ i h. absurd (not-suc-le-zero h))
-all-below P dec (suc n) = go (all-below P dec n) (dec n)
-  where
-    go : ((i : ℕ) → i < n → P i) ⊎ ((j : ℕ) × (j < n) × (P j → ⊥) × ((i : ℕ) → i < j → P i)) → Dec (P n)
-        → ((i : ℕ) → i < suc n → P i) ⊎ ((j : ℕ) × (j < suc n) × (P j → ⊥) × ((i : ℕ) → i < j → P i))
-    go (inl all) (yes h) = inl (λ i hi. ⊎-elim (λ e. subst P (sym e) h) (λ ne. all i (omega arith)) (eq-or i n))
-    go (inl all) (no h) = inr (n, omega arith, h, all)
-    go (inr f) d = inr (f .0, omega (arith, f .1), f .2, f .3)
 
 same-dec : (a : Params) (x v codeword : List ℕ) (j : ℕ) → Dec (Same a x v codeword j)
 same-dec a x v codeword j =
