@@ -10,7 +10,8 @@ ghost use Prim.Native.Nat.{_*_, _≤_};
 ghost use lib.Dec.{eqb};
 ghost use Rattle.base.specs.Gate.{orElse, firstNo};
 ghost use Rattle.params.specs.Nodes.{size, within};
-ghost use Rattle.gates.specs.Gates.{shapeAsked, paramsAsked, lengthsAsked, namesAsked, sizesAsked, freeAsked, encodeGate, checkGate, decodeGate, deltaGate, updateGate, repairGate, viewGate, reconfigureGate, damageGate};
+ghost use Rattle.gates.specs.Gates.{shapeAsked, paramsAsked, lengthsAsked, namesAsked, sizesAsked, freeAsked};
+ghost use Rattle.gates.specs.Gates.{encodeGate, checkGate, decodeGate, deltaGate, updateGate, repairGate, viewGate, reconfigureGate, damageGate};
 ghost use Rattle.gates.specs.Valid.{Valid};
 
 // The number of the first no: of the questions put before, or else of those put after.
@@ -176,7 +177,8 @@ fn set_call_gate(
     wanted: usize,
 ) -> u32
     requires { ⌜ (Valid a → (x ≤ a .n) × (y ≤ a .n)) ⌝ }
-    ensures { λ r. ⌜ r ≡ firstNo (paramsAsked a ++ lengthsAsked (eqb first (x * a .b) && eqb second (y * a .b)) ∷ namesAsked (within (a .n) (set .0)) ∷ sizesAsked (eqb (size (set .0)) wanted) ∷ []) ⌝ }
+    ensures { λ r. ⌜ r ≡ firstNo (paramsAsked a ++ lengthsAsked (eqb first (x * a .b) && eqb second (y * a .b)) ∷
+        namesAsked (within (a .n) (set .0)) ∷ sizesAsked (eqb (size (set .0)) wanted) ∷ []) ⌝ }
 {
     let params = params_gate(a);
     if params != 0 {

@@ -1,8 +1,9 @@
 -- The questions on the parameters are another gate's; then the lengths. Assumes nothing.
 use mathlib.Core.Path.{_≡_, sym, ap, ap₂, _∙_, subst}
-use mathlib.Core.Bool.{_&&_}
+use mathlib.Core.Bool.{true, _&&_}
 use mathlib.Core.List.{List, _++_}
 use Prim.Native.Nat.{ℕ, _*_}
+use lib.Dec.{eqb}
 use borrow.Author.Needs.{needs}
 use mir.Syntax.{w64}
 use mir.Val.{Fits}
@@ -24,8 +25,14 @@ valid : (c : tie.Else1) → Valid (c .before .before .args .a)
 valid c = valid-of (c .before .before .args .a) (c .before .params-gate .ensures) (c .if1 .left)
 
 slack-bytes : (c : tie.After-slack-parts)
-    → c .slack-parts .result * c .before .before .before .before .before .args .a .b ≡ slackParts (c .before .before .before .before .before .args .a) * c .before .before .before .before .before .args .a .b
+    → let a = c .before .before .before .before .before .args .a in c .slack-parts .result * a .b ≡ slackParts a * a .b
 slack-bytes c = ap (λ (x : ℕ). x * c .before .before .before .before .before .args .a .b) (c .slack-parts .ensures)
+
+-- message and slack have their lengths
+two-lengths : (c : tie.Else3)
+    → let s = c .before .before .before .before .before .before .before .args in
+    (eqb (s .message) (s .a .k * s .a .b) && eqb (s .slack) (slackParts (s .a) * s .a .b)) ≡ true
+two-lengths c = ap₂ _&&_ (eq-eqb _ _ (c .before .before .before .if2 .left)) (eq-eqb _ _ (c .if3 .left ∙ slack-bytes (c .before .before)))
 
 params-gate-requires : tie.Need-params-gate-requires
 params-gate-requires c κs = search needs
@@ -64,14 +71,14 @@ unfolding encodeGate
 returns-4 c =
     first _
     (passed (c .before .before .before .before .before .before .before)
-    (nay (ap₂ _&&_ (ap₂ _&&_ (eq-eqb _ _ (c .before .before .before .before .before .if2 .left)) (eq-eqb _ _ (c .before .before .if3 .left ∙ slack-bytes (c .before .before .before .before)))) (ne-eqb _ _ (c .if4 .taken)))))
+    (nay (ap₂ _&&_ (two-lengths (c .before .before)) (ne-eqb _ _ (c .if4 .taken)))))
 
 returns-5 : tie.Need-returns-5
 unfolding encodeGate
 returns-5 c =
     first _
     (passed (c .before .before .before .before .before .before .before)
-    (yea (ap₂ _&&_ (ap₂ _&&_ (eq-eqb _ _ (c .before .before .before .before .before .if2 .left)) (eq-eqb _ _ (c .before .before .if3 .left ∙ slack-bytes (c .before .before .before .before)))) (eq-eqb _ _ (c .if4 .left))) over))
+    (yea (ap₂ _&&_ (two-lengths (c .before .before)) (eq-eqb _ _ (c .if4 .left))) over))
 
 pub encode-gate-spec : {M : Type 1} → statement M
 encode-gate-spec =

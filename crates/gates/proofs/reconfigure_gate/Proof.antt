@@ -19,7 +19,7 @@ returns : tie.Need-returns
 unfolding reconfigureGate
 returns c =
     let s = c .before .before .before .args in
-    in-turn (bothAsked (s .a) (s .t) (s .old) (s .new) (s .message)) _ (c .before .before .lengths-gate .result) (c .before .sets-gate .result) tt (c .before .before .lengths-gate .ensures) (c .before .sets-gate .ensures) (c .first-no .ensures)
+    in-turn (bothAsked (s .a) (s .t) (s .old) (s .new) (s .message)) _ _ _ tt (c .before .before .lengths-gate .ensures) (c .before .sets-gate .ensures) (c .first-no .ensures)
 
 pub reconfigure-gate-spec : {M : Type 1} → statement M
 reconfigure-gate-spec = tie.close (tie.spec lengths-gate-requires sets-gate-requires first-no-requires returns)

@@ -19,7 +19,7 @@ first-no-requires c κs = search needs
 returns : tie.Need-returns
 returns c =
     let s = c .before .before .before .args in
-    in-turn (namesAsked (within (s .n) (s .set .0)) ∷ []) _ (c .before .before .name-gate .result) (c .before .size-gate .result) tt (c .before .before .name-gate .ensures) (c .before .size-gate .ensures) (c .first-no .ensures)
+    in-turn (namesAsked (within (s .n) (s .set .0)) ∷ []) _ _ _ tt (c .before .before .name-gate .ensures) (c .before .size-gate .ensures) (c .first-no .ensures)
 
 pub set-gate-spec : {M : Type 1} → statement M
 set-gate-spec = tie.close (tie.spec name-gate-requires size-gate-requires first-no-requires returns)

@@ -12,15 +12,19 @@ use Rattle.base.proofs.Questions.{First, nay, yea, over, first, stopped, past, 
 use Rattle.gates.proofs.sets_gate.Statement.{statement}
 use Rattle.gates.proofs.sets_gate.Tie as tie
 
--- past the earlier gate's questions
-passed : (c : tie.Else1) {rest : List Question} {m : ℕ} → First rest m → First (namesAsked (within (c .before .before .args .n) (c .before .before .args .set .0) && within (c .before .before .args .m) (c .before .before .args .other .0)) ∷ [] ++ rest) m
-passed c = past (namesAsked (within (c .before .before .args .n) (c .before .before .args .set .0) && within (c .before .before .args .m) (c .before .before .args .other .0)) ∷ []) tt (c .before .names-gate .ensures) (c .if1 .left)
+-- the earlier gate's question
+abbrev asked : tie.After-names-gate → List Question
+asked c = let s = c .before .args in namesAsked (within (s .n) (s .set .0) && within (s .m) (s .other .0)) ∷ []
+
+-- past it
+passed : (c : tie.Else1) {rest : List Question} {m : ℕ} → First rest m → First (asked (c .before) ++ rest) m
+passed c = past (asked (c .before)) tt (c .before .names-gate .ensures) (c .if1 .left)
 
 names-gate-requires : tie.Need-names-gate-requires
 names-gate-requires c κs = search needs
 
 returns : tie.Need-returns
-returns c = first _ (stopped (namesAsked (within (c .before .before .args .n) (c .before .before .args .set .0) && within (c .before .before .args .m) (c .before .before .args .other .0)) ∷ []) _ (c .before .names-gate .ensures) (c .if1 .taken))
+returns c = first _ (stopped (asked (c .before)) _ (c .before .names-gate .ensures) (c .if1 .taken))
 
 size-requires : tie.Need-size-requires
 size-requires c κs = search needs

@@ -17,7 +17,7 @@ first-no-requires c κs = search needs
 returns : tie.Need-returns
 returns c =
     let s = c .before .before .before .args in
-    in-turn (paramsAsked (s .a)) _ (c .before .before .params-gate .result) (c .before .shape-gate .result) tt (c .before .before .params-gate .ensures) (c .before .shape-gate .ensures) (c .first-no .ensures)
+    in-turn (paramsAsked (s .a)) _ _ _ tt (c .before .before .params-gate .ensures) (c .before .shape-gate .ensures) (c .first-no .ensures)
 
 pub shapes-gate-spec : {M : Type 1} → statement M
 shapes-gate-spec = tie.close (tie.spec params-gate-requires shape-gate-requires first-no-requires returns)
