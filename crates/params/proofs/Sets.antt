@@ -4,7 +4,8 @@ use mathlib.Core.Logic.{_↔_, ⊎-elim}
 use mathlib.Core.Bool.{Bool, true, false, not, _&&_, and-true, true≢false}
 use mathlib.Core.List.{List, [], _++_, append-nil}
 use Prim.Native.Nat.{ℕ, zero, suc, _+_, _-_, _*_, _/_, _%_, _^_, min, _≤_, _<_, zero-le}
-use native.Mathlib.Nat.{not-suc-le-zero, le-refl, le-trans, zero-lt-suc, one-mul, zero-min, sub-zero, zero-sub, suc-sub-suc, min-le-left, mod-one, mod-lt, mod-eq-of-lt, div-eq-of-lt, div-lt-iff-lt-mul, lt-of-lt-of-le, lt-of-le-of-lt}
+use native.Mathlib.Nat.{not-suc-le-zero, le-refl, le-trans, zero-lt-suc, lt-of-lt-of-le, lt-of-le-of-lt, one-mul, zero-min, min-le-left}
+use native.Mathlib.Nat.{sub-zero, zero-sub, suc-sub-suc, mod-one, mod-lt, mod-eq-of-lt, div-eq-of-lt, div-lt-iff-lt-mul}
 use native.Mathlib.Numerals.{one-add}
 use native.Mathlib.Omega.{arith}
 use native.Mathlib.Decide.{le-ind}

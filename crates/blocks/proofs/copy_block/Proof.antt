@@ -37,8 +37,9 @@ loop-less c = search needs
 
 loop-again : tie.Need-loop-again Inv-loop μ-loop
 loop-again c =
+    let s = c .before .before .before .before .before .before .args in
     let l = c .before .before .loop in
-    (omega arith, filled-more _ (l .p) _ (l .dst) _ (omega (arith, l .inv .1 .same)) (getD-default (now (c .before .before .before .before .before .before .args .src)) (l .p) 0 _ (omega arith)) (l .inv .1))
+    (omega arith, filled-more _ (l .p) _ (l .dst) _ (omega (arith, l .inv .1 .same)) (getD-default (now (s .src)) (l .p) 0 _ (omega arith)) (l .inv .1))
 
 same-length : tie.Need-same-length Inv-loop μ-loop
 same-length c = c .before .loop .inv .1 .same
