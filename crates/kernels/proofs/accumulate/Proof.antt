@@ -29,11 +29,12 @@ wide-requires c κs = search needs
 
 -- the block ends within src
 inside : (c : tie.After-wide Inv-loop μ-loop)
-    → c .wide .result * length (now (c .before .before .before .before .before .before .before .before .args .dst)) + length (now (c .before .before .before .before .before .before .before .before .args .dst)) ≤ length (now (c .before .before .before .before .before .before .before .before .args .src))
+    → let s = c .before .before .before .before .before .before .before .before .args in c .wide .result * length (now (s .dst)) + length (now (s .dst)) ≤ length (now (s .src))
 inside c =
     let s = c .before .before .before .before .before .before .before .before in
-    subst⁻¹ (λ (k : ℕ). k * length (now (s .args .dst)) + length (now (s .args .dst)) ≤ length (now (s .args .src))) (c .wide .ensures)
-    (omega (arith, stretch-ends (length (now (s .args .dst))) 0 (length (now (s .args .dst))) (c .before .before .before .loop .j) (length (now (s .args .src))) (now (s .args .places)) (omega arith) (omega arith) (s .pre .1)))
+    let b = length (now (s .args .dst)) in
+    subst⁻¹ (λ (k : ℕ). k * b + b ≤ length (now (s .args .src))) (c .wide .ensures)
+    (omega (arith, stretch-ends b 0 b (c .before .before .before .loop .j) _ (now (s .args .places)) (omega arith) (omega arith) (s .pre .1)))
 
 mul-start : tie.Need-mul-start Inv-loop μ-loop
 mul-start c = omega (arith, inside c)
@@ -64,11 +65,13 @@ loop-less c = search needs
 
 loop-again : tie.Need-loop-again Inv-loop μ-loop
 loop-again c =
-    let s = c .before .before .before .before .before .before .before .before .before .before .before .before .before .before in
-    let l = c .before .before .before .before .before .before .before .before .before .loop in
+    let a = c .before .before .before .before .before .before in
+    let l = a .before .before .before .loop in
+    let s = a .before .before .before .before .before .before .before .before in
+    let b = length (now (s .args .dst)) in
     summed-more _ _ _ (l .j) (now (s .args .dst)) (l .dst) _ _ (omega arith)
-    (λ p h. ap (λ (k : ℕ). getD (partOf (length (now (s .args .dst))) k (now (s .args .src))) p 0) (c .before .before .before .before .before .before .wide .ensures)
-    ∙ partOf-at (length (now (s .args .dst))) (getD (now (s .args .places)) (l .j) 0) (now (s .args .src)) p h)
+    (λ p h. ap (λ (k : ℕ). getD (partOf b k (now (s .args .src))) p 0) (a .wide .ensures)
+    ∙ partOf-at b (getD (now (s .args .places)) (l .j) 0) (now (s .args .src)) p h)
     (c .before .before .add-multiple .ensures) (l .inv)
 
 same-length : tie.Need-same-length Inv-loop μ-loop

@@ -31,14 +31,15 @@ wide-requires c κs = search needs
 
 -- the lent parts end within out and coeffs
 module _ (c : tie.After-wide Inv-loop μ-loop) where
-  out-end : c .wide .result * c .before .before .before .before .before .before .before .before .before .args .b + c .before .before .before .before .before .before .before .before .before .args .b ≤ length (c .before .before .before .loop .out)
+  out-end : let s = c .before .before .before .before .before .before .before .before .before .args in c .wide .result * s .b + s .b ≤ length (c .before .before .before .loop .out)
   out-end =
-      let s = c .before .before .before .before .before .before .before .before .before in
       let l = c .before .before .before .loop in
-      subst⁻¹ (λ (k : ℕ). k * s .args .b + s .args .b ≤ length (l .out)) (c .wide .ensures)
-      (omega (arith, stretch-ends (s .args .b) 0 (s .args .b) (l .i) (length (now (s .args .out))) (now (s .args .targets)) (omega arith) (omega arith) (s .pre .target), l .inv .1 .same))
+      let s = c .before .before .before .before .before .before .before .before .before in
+      let b = s .args .b in
+      subst⁻¹ (λ (k : ℕ). k * b + b ≤ length (l .out)) (c .wide .ensures)
+      (omega (arith, stretch-ends b 0 b (l .i) (length (now (s .args .out))) (now (s .args .targets)) (omega arith) (omega arith) (s .pre .target), l .inv .1 .same))
 
-  row-end : c .before .before .before .loop .i * c .before .before .before .before .before .before .before .before .before .args .stride + length (now (c .before .before .before .before .before .before .before .before .before .args .places)) ≤ length (now (c .before .before .before .before .before .before .before .before .before .args .coeffs))
+  row-end : let s = c .before .before .before .before .before .before .before .before .before .args in c .before .before .before .loop .i * s .stride + length (now (s .places)) ≤ length (now (s .coeffs))
   row-end = c .before .before .before .before .before .before .before .before .before .pre .row (c .before .before .before .loop .i) (omega arith)
 
 mul-at : tie.Need-mul-at Inv-loop μ-loop
@@ -73,10 +74,11 @@ part-accumulate-end-2 c = omega (arith, row-end (c .before))
 
 accumulate-requires : tie.Need-accumulate-requires Inv-loop μ-loop
 accumulate-requires c κs =
-    let s = c .before .before .before .before .before .before .before .before .before .before .before in
-    let l = c .before .before .before .before .before .loop in (
-      omega (arith, length-stretch (l .i * s .args .stride) (length (now (s .args .places))) (now (s .args .coeffs)) (row-end (c .before .before))),
-      part-inside (s .args .b) (c .before .before .wide .result) _ (now (s .args .places)) (l .out) (out-end (c .before .before)) (s .pre .block),
+    let a = c .before .before in
+    let l = a .before .before .before .loop in
+    let s = a .before .before .before .before .before .before .before .before .before in (
+      omega (arith, length-stretch (l .i * s .args .stride) (length (now (s .args .places))) (now (s .args .coeffs)) (row-end a)),
+      part-inside (s .args .b) (a .wide .result) _ (now (s .args .places)) (l .out) (out-end a) (s .pre .block),
     )
 
 add-i : tie.Need-add-i Inv-loop μ-loop
@@ -89,7 +91,8 @@ loop-again : tie.Need-loop-again Inv-loop μ-loop
 loop-again c =
     let w = c .before .before .before .before .before in
     let l = w .before .before .before .loop in
-    (omega arith, row-added _ _ _ _ _ _ _ (l .i) (w .wide .result) (l .out) (c .before .before .accumulate .last .0) (w .wide .ensures) (out-end w) (c .before .before .accumulate .ensures) (l .inv .1))
+    let a = c .before .before .accumulate in
+    (omega arith, row-added _ _ _ _ _ _ _ (l .i) (w .wide .result) (l .out) (a .last .0) (w .wide .ensures) (out-end w) (a .ensures) (l .inv .1))
 
 same-length : tie.Need-same-length Inv-loop μ-loop
 same-length c = c .before .loop .inv .1 .same

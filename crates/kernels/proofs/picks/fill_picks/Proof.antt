@@ -21,7 +21,7 @@ loop-holds : tie.Need-loop-holds Inv-loop μ-loop
 loop-holds c = (omega arith, picked-none _ _ _ _ _ _)
 
 -- a row ends within the coefficients
-ends : (c : tie.In-loop Inv-loop μ-loop) → c .before .loop .i * c .before .before .before .before .args .stride + c .before .before .before .before .args .width ≤ length (now (c .before .before .before .before .args .coeffs))
+ends : (c : tie.In-loop Inv-loop μ-loop) → let s = c .before .before .before .before .args in c .before .loop .i * s .stride + s .width ≤ length (now (s .coeffs))
 ends c = c .before .before .before .before .pre .1 .1 (c .before .loop .i) (omega arith)
 
 mul-row : tie.Need-mul-row Inv-loop μ-loop

@@ -89,7 +89,10 @@ part-put-word-end : tie.Need-part-put-word-end Inv-loop μ-loop
 part-put-word-end c = room (c .before .before .before)
 
 put-word-requires : tie.Need-put-word-requires Inv-loop μ-loop
-put-word-requires c κs = length-stretch (c .before .before .before .before .before .loop .g * 256 + c .before .before .before .before .before .before .before .before .args .i * 8) 8 (c .before .before .before .before .before .loop .picks) (room (c .before .before .before .before))
+put-word-requires c κs =
+    let a = c .before .before .before .before in
+    let l = a .before .loop in
+    length-stretch (l .g * 256 + a .before .before .before .before .args .i * 8) 8 (l .picks) (room a)
 
 add-g : tie.Need-add-g Inv-loop μ-loop
 add-g c = search needs
@@ -99,10 +102,14 @@ loop-less c = search needs
 
 loop-again : tie.Need-loop-again Inv-loop μ-loop
 loop-again c =
-    let s = c .before .before .before .before .before .before .before .before .before .before .before in
-    let l = c .before .before .before .before .before .before .before .before .loop in
+    let word = c .before .before .before .before .word-of in
     let a = c .before .before .before .before .before .before in
-    (omega arith, row-more (s .args .i) (s .args .size) (now (s .args .coeffs)) (l .g) (a .shorter .result) (c .before .before .before .before .word-of .result) _ (l .picks) _ (s .pre .1 .0) (room (c .before .before .before .before .before .before .before)) (few a) (group-ends a) (count a) (c .before .before .before .before .word-of .ensures) (c .before .before .put-word .ensures) (l .inv .1))
+    let l = a .before .before .loop in
+    let s = a .before .before .before .before .before in (
+      omega arith,
+      row-more (s .args .i) (s .args .size) (now (s .args .coeffs)) (l .g) (a .shorter .result) (word .result) _ (l .picks) _ (s .pre .1 .0)
+          (room (a .before)) (few a) (group-ends a) (count a) (word .ensures) (c .before .before .put-word .ensures) (l .inv .1),
+    )
 
 same-length : tie.Need-same-length Inv-loop μ-loop
 same-length c = c .before .loop .inv .1 .same

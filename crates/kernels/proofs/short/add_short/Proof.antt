@@ -1,7 +1,7 @@
 -- After each turn the bytes before `at` of every block have the rows added that go to it, the others are as they were. Assumes nothing.
 use mathlib.Core.Path.{_≡_, refl, sym, _∙_, subst⁻¹}
 use mathlib.Core.Logic.{⊎-elim}
-use Prim.Native.Nat.{ℕ, _-_, _^_, _≤_, _<_}
+use Prim.Native.Nat.{ℕ, _+_, _-_, _^_, _≤_, _<_}
 use denote.Ref.{now}
 use native.Mathlib.Omega.{arith}
 use borrow.Author.Needs.{needs}
@@ -15,7 +15,8 @@ use Rattle.kernels.proofs.short.add_short.Statement.{statement}
 use Rattle.kernels.proofs.short.add_short.Tie as tie
 
 abbrev Inv-loop : tie.InvT-loop
-Inv-loop out₀ targets b src places coeffs stride table₀ picks width at₀ out table at = (at ≤ b) × (length table ≡ 256) × Tiled b (blockAt b stride src targets places coeffs out₀) at out₀ out × (b < 2 ^ 64)
+Inv-loop out₀ targets b src places coeffs stride table₀ picks width at₀ out table at =
+    (at ≤ b) × (length table ≡ 256) × Tiled b (blockAt b stride src targets places coeffs out₀) at out₀ out × (b < 2 ^ 64)
 
 abbrev μ-loop : tie.MeasureT-loop
 μ-loop out₀ targets b src places coeffs stride table₀ picks width at₀ out table at = b - at
@@ -37,13 +38,17 @@ sub-shorter c = search needs
 shorter-requires : tie.Need-shorter-requires Inv-loop μ-loop
 shorter-requires c κs = search needs
 
+-- a tile ends within the blocks, and has at most 16 bytes
+tile-ends : (c : tie.After-shorter Inv-loop μ-loop) → (c .before .before .loop .at + c .shorter .result ≤ c .before .before .before .before .before .before .before .before .before .before .before .args .b) × (c .shorter .result ≤ 16)
+tile-ends c = (omega arith, c .shorter .ensures .0)
+
 slice-aggregate-fill-short : tie.Need-slice-aggregate-fill-short Inv-loop μ-loop
 slice-aggregate-fill-short c = sym (c .before .before .before .loop .inv .1)
 
 fill-short-requires : tie.Need-fill-short-requires Inv-loop μ-loop
 fill-short-requires c κs =
     let s = c .before .before .before .before .before .before .before .before .before .before .before .before in
-    (s .pre .0 .block, ((omega arith, omega arith), (s .pre .1 .1, c .before .before .before .loop .inv .1)))
+    (s .pre .0 .block, (tile-ends (c .before), (s .pre .1 .1, c .before .before .before .loop .inv .1)))
 
 slice-aggregate-add-short-rows : tie.Need-slice-aggregate-add-short-rows Inv-loop μ-loop
 slice-aggregate-add-short-rows c = search needs
@@ -53,12 +58,13 @@ slice-aggregate-add-short-rows-2 c = search needs
 
 add-short-rows-requires : tie.Need-add-short-rows-requires Inv-loop μ-loop
 add-short-rows-requires c κs =
-    let s = c .before .before .before .before .before .before .before .before .before .before .before .before .before .before .before .before .before in
-    let l = c .before .before .before .before .before .before .before .before .loop in
     let t = c .before .before .before .before .fill-short .ensures in
-    let k = c .before .before .before .before .before .before .before .before .before .before .fill-picks .ensures in (
+    let m = c .before .before .before .before .before .before .before .before in
+    let l = m .loop in
+    let k = m .before .before .fill-picks .ensures in
+    let s = m .before .before .before .before .before .before .before .before .before in (
       subst⁻¹ (Inside (s .args .b) (now (s .args .targets))) (l .inv .2 .same) (s .pre .0 .target),
-      ((omega arith, omega arith), picks-reach _ _ _ _ _ k 16 4 _ (s .pre .1 .1) (λ g hg. omega (arith, k .same)) (λ g hg. omega (arith, t .same, l .inv .1))),
+      (tile-ends (c .before .before .before .before .before .before), picks-reach _ _ _ _ _ k 16 4 _ (s .pre .1 .1) (λ g hg. omega (arith, k .same)) (λ g hg. omega (arith, t .same, l .inv .1))),
     )
 
 add-at : tie.Need-add-at Inv-loop μ-loop
@@ -71,13 +77,14 @@ loop-less c =
 
 loop-again : tie.Need-loop-again Inv-loop μ-loop
 loop-again c =
-    let s = c .before .before .before .before .before .before .before .before .before .before .before .before .before .before .before .before .before .before .before .before in
-    let l = c .before .before .before .before .before .before .before .before .before .before .before .loop in
-    let t = c .before .before .before .before .before .before .before .fill-short .ensures in (
-      omega arith,
+    let t = c .before .before .before .before .before .before .before .fill-short .ensures in
+    let m = c .before .before .before .before .before .before .before .before .before .before .before in
+    let l = m .loop in
+    let bytes = m .before .before .before .before .shared-slice-known4 .given in (
+      tile-ends (c .before .before .before .before .before .before .before .before .before) .0,
       t .same ∙ l .inv .1,
-      tiled-more _ (l .at) _ _ _ _ _ _ _ _ (l .out) _ (omega arith)
-          (row-product 16 _ _ _ _ _ _ _ _ _ _ _ _ (λ i. omega (arith, c .before .before .before .before .before .before .before .before .before .before .before .before .before .before .before .shared-slice-known4 .given i)) (one-group _ (omega arith)) (tabled-one _ _ _ _ _ _ _ _ t) (c .before .before .before .before .before .before .before .before .before .before .before .before .before .fill-picks .ensures))
+      tiled-more _ (l .at) _ _ _ _ _ _ _ _ (l .out) _ (tile-ends (c .before .before .before .before .before .before .before .before .before) .0)
+          (row-product 16 _ _ _ _ _ _ _ _ _ _ _ _ (λ i. omega (arith, bytes i)) (one-group _ (omega arith)) (tabled-one _ _ _ _ _ _ _ _ t) (m .before .before .fill-picks .ensures))
           (l .inv .2) (c .before .before .add-short-rows .ensures),
       l .inv .3,
     )

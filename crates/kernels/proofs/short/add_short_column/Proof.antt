@@ -30,7 +30,8 @@ same-length-2 c = search needs
 
 returns-2 : tie.Need-returns-2
 returns-2 c =
-    raised-same 16 _ _ _ _ _ _ (λ p hp. copy-at 16 _ _ (c .before .before .before .before .before .before .before .before .before .before .before .pre .2) (c .before .before .before .before .before .before .copy-block .ensures) p)
+    let d = c .before .before .before .before .before .before in
+    raised-same 16 _ _ _ _ _ _ (λ p hp. copy-at 16 _ _ (d .before .before .before .before .before .pre .2) (d .copy-block .ensures) p)
     (c .before .before .raise-short2 .ensures)
 
 pub add-short-column-spec : {M : Type 1} → statement M

@@ -35,7 +35,7 @@ double-tile-requires : tie.Need-double-tile-requires Inv-loop μ-loop
 double-tile-requires c κs = search needs
 
 -- the pick stands within the picks
-inside : (c : tie.In-loop Inv-loop μ-loop) → c .before .before .before .before .before .args .i * 8 + c .before .loop .s < length (now (c .before .before .before .before .before .args .picks))
+inside : (c : tie.In-loop Inv-loop μ-loop) → let s = c .before .before .before .before .before .args in s .i * 8 + c .before .loop .s < length (now (s .picks))
 inside c = omega (arith, c .before .before .before .before .before .pre (c .before .loop .s) (omega arith) .place 0 (omega arith))
 
 mul-wide : tie.Need-mul-wide Inv-loop μ-loop
@@ -52,14 +52,20 @@ wide-requires c κs = search needs
 
 -- it names an entry that the table has
 module _ (c : tie.After-wide Inv-loop μ-loop) where
-  pick-is : c .wide .result ≡ 0 * 32 + cell 256 (now (c .before .before .before .before .before .before .before .before .before .before .args .picks)) 0 (c .before .before .before .before .before .before .before .before .before .before .args .i * 8 + c .before .before .before .before .before .before .loop .s)
+  abbrev start : tie.Start Inv-loop μ-loop
+  start = c .before .before .before .before .before .before .before .before .before .before
+
+  abbrev place : ℕ
+  place = start .args .i * 8 + c .before .before .before .before .before .before .loop .s
+
+  pick-is : c .wide .result ≡ 0 * 32 + cell 256 (now (start .args .picks)) 0 place
   unfolding cell
   pick-is =
-      let first : c .before .before .before .before .before .before .before .before .before .before .args .i * 8 + c .before .before .before .before .before .before .loop .s ≡ 0 * 256 + (c .before .before .before .before .before .before .before .before .before .before .args .i * 8 + c .before .before .before .before .before .before .loop .s) = omega arith in
-      omega (arith, c .wide .ensures, ap (λ (q : ℕ). getD (now (c .before .before .before .before .before .before .before .before .before .before .args .picks)) q 0) first)
+      let first : place ≡ 0 * 256 + place = omega arith in
+      omega (arith, c .wide .ensures, ap (λ (q : ℕ). getD (now (start .args .picks)) q 0) first)
 
-  room : c .wide .result * 16 + 16 ≤ length (now (c .before .before .before .before .before .before .before .before .before .before .args .table))
-  room = omega (arith, pick-is, c .before .before .before .before .before .before .before .before .before .before .pre (c .before .before .before .before .before .before .loop .s) (omega arith) .entry 0 (omega arith))
+  room : c .wide .result * 16 + 16 ≤ length (now (start .args .table))
+  room = omega (arith, pick-is, start .pre (c .before .before .before .before .before .before .loop .s) (omega arith) .entry 0 (omega arith))
 
 mul-at : tie.Need-mul-at Inv-loop μ-loop
 mul-at c = omega (arith, room c)
@@ -84,7 +90,9 @@ doubled : (c : tie.After-double-tile Inv-loop μ-loop) → length (c .double-til
 doubled c = c .double-tile .kept .0 ∙ full (c .before .before .before)
 
 add-tile-requires : tie.Need-add-tile-requires Inv-loop μ-loop
-add-tile-requires c κs = doubled (c .before .before .before .before .before) ∙ sym (length-partOf 16 (c .before .before .wide .result) (now (c .before .before .before .before .before .before .before .before .before .before .before .before .args .table)) (room (c .before .before)))
+add-tile-requires c κs =
+    let a = c .before .before in
+    doubled (c .before .before .before .before .before) ∙ sym (length-partOf 16 (a .wide .result) (now (start a .args .table)) (room a))
 
 add-s : tie.Need-add-s Inv-loop μ-loop
 add-s c = search needs
@@ -94,14 +102,16 @@ loop-less c = search needs
 
 loop-again : tie.Need-loop-again Inv-loop μ-loop
 loop-again c =
-    let s = c .before .before .before .before .before .before .before .before .before .before .before .before .before .before .args in
-    let l = c .before .before .before .before .before .before .before .before .before .before .loop in
-    let twice = c .before .before .before .before .before .before .before .double-tile .last .0 in (
+    let a = c .before .before .before .before in
+    let d = c .before .before .before .before .before .before .before in
+    let s = start a .args in
+    let l = d .before .before .before .loop in
+    let twice = d .double-tile .last .0 in (
       omega arith,
-      bits-more 16 1 _ _ (s .i) (l .s) _ twice _ (l .inv .1) (c .before .before .before .before .before .before .before .double-tile .ensures)
-          (gathered-more 16 (now (s .table)) (now (s .picks)) (s .i * 8 + l .s) twice (doubled (c .before .before .before .before .before .before .before)) 0 twice _
-          (c .before .add-tile .ensures ∙ ap (λ (n : ℕ). plus twice (partOf 16 n (now (s .table)))) (pick-is (c .before .before .before .before)))
-          (gathered-none 16 (now (s .table)) (now (s .picks)) (s .i * 8 + l .s) twice (doubled (c .before .before .before .before .before .before .before)))),
+      bits-more 16 1 _ _ (s .i) (l .s) _ twice _ (l .inv .1) (d .double-tile .ensures)
+          (gathered-more 16 (now (s .table)) (now (s .picks)) (place a) twice (doubled d) 0 twice _
+          (c .before .add-tile .ensures ∙ ap (λ (n : ℕ). plus twice (partOf 16 n (now (s .table)))) (pick-is a))
+          (gathered-none 16 (now (s .table)) (now (s .picks)) (place a) twice (doubled d))),
     )
 
 slice-aggregate-add-part : tie.Need-slice-aggregate-add-part Inv-loop μ-loop

@@ -34,7 +34,8 @@ loop-again : tie.Need-loop-again Inv-loop μ-loop
 loop-again c =
     let s = c .before .before .before .before .before .before .before .before in
     let l = c .before .before .before .before .before .loop in
-    (omega arith, raised-more 16 16 (s .args .half) (now (s .args .tile)) (now (s .args .table)) (s .pre .0) (omega arith) (l .m) (l .table) _ (omega arith) (c .before .before .set-short-sum .ensures) (l .inv .1))
+    let e = c .before .before .set-short-sum .ensures in
+    (omega arith, raised-more 16 16 (s .args .half) (now (s .args .tile)) (now (s .args .table)) (s .pre .0) (omega arith) (l .m) (l .table) _ (omega arith) e (l .inv .1))
 
 same-length : tie.Need-same-length Inv-loop μ-loop
 same-length c = c .before .loop .inv .1 .same

@@ -63,11 +63,15 @@ same-length c = search needs
 
 returns : tie.Need-returns
 returns c =
-    let s = c .before .before .before .before .before .before .before .before .before .before .before .before .before .before .before in
-    let part = partOf 16 (s .args .n) (now (s .args .table)) in
-    sum-is 16 (s .args .n) (s .args .m) _ _ _ _ _ _ (s .pre .0 .1) refl (c .before .before .before .before .before .before .before .before .before .copy-block .ensures) (c .before .before .before .before .before .before .add-tile .ensures)
-    (ap (putBlock 16 (s .args .n) (now (s .args .table)))
-    (c .before .before .copy-block2 .ensures ∙ over-same part _ (omega (arith, length-partOf 16 (s .args .n) (now (s .args .table)) (s .pre .0 .0), c .before .before .before .before .before .before .add-tile .kept .0, c .before .before .before .before .before .before .before .before .before .copy-block .kept .0))))
+    let a = c .before .before .before .before .before .before in
+    let d = a .before .before .before in
+    let s = d .before .before .before .before .before .before in
+    let n = s .args .n in
+    let table = now (s .args .table) in
+    sum-is 16 n (s .args .m) _ _ _ _ _ _ (s .pre .0 .1) refl (d .copy-block .ensures) (a .add-tile .ensures)
+    (ap (putBlock 16 n table)
+    (c .before .before .copy-block2 .ensures
+    ∙ over-same (partOf 16 n table) _ (omega (arith, length-partOf 16 n table (s .pre .0 .0), a .add-tile .kept .0, d .copy-block .kept .0))))
 
 pub set-short-sum-spec : {M : Type 1} → statement M
 set-short-sum-spec =

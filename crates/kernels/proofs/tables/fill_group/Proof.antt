@@ -35,7 +35,8 @@ clear-requires : tie.Need-clear-requires Inv-loop μ-loop
 clear-requires c κs = search needs
 
 -- the table keeps its length when its first entry is cleared
-kept : (c : tie.After-clear Inv-loop μ-loop) → length (putBlock 64 0 (now (c .before .before .before .before .before .args .table)) (c .clear .last .0)) ≡ length (now (c .before .before .before .before .before .args .table))
+kept : (c : tie.After-clear Inv-loop μ-loop)
+    → let s = c .before .before .before .before .before .args in length (putBlock 64 0 (now (s .table)) (c .clear .last .0)) ≡ length (now (s .table))
 kept c =
     let s = c .before .before .before .before .before in
     putBlock-length 64 32 0 (now (s .args .table)) (c .clear .last .0) (omega arith) (omega (arith, s .pre .1 .1 .1))
@@ -58,17 +59,19 @@ wide-requires c κs = search needs
 
 -- the column's bytes end within src, and there is room for twice as many entries
 module _ (c : tie.After-wide Inv-loop μ-loop) where
-  inside : c .wide .result * c .before .before .before .before .before .before .before .before .before .before .before .args .b + c .before .before .before .before .before .before .before .before .before .before .before .args .at + c .before .before .before .before .before .before .before .before .before .before .before .args .w ≤ length (now (c .before .before .before .before .before .before .before .before .before .before .before .args .src))
+  abbrev start : tie.Start Inv-loop μ-loop
+  start = c .before .before .before .before .before .before .before .before .before .before .before
+
+  inside : let s = start .args in c .wide .result * s .b + s .at + s .w ≤ length (now (s .src))
   inside =
-      let s = c .before .before .before .before .before .before .before .before .before .before .before in
-      subst⁻¹ (λ (k : ℕ). k * s .args .b + s .args .at + s .args .w ≤ length (now (s .args .src))) (c .wide .ensures)
-      (stretch-ends (s .args .b) (s .args .at) (s .args .w) (c .before .before .before .loop .t - 1) _ (now (s .args .places)) (s .pre .1 .0 .0) (omega arith) (s .pre .0))
+      let s = start .args in
+      subst⁻¹ (λ (k : ℕ). k * s .b + s .at + s .w ≤ length (now (s .src))) (c .wide .ensures)
+      (stretch-ends (s .b) (s .at) (s .w) (c .before .before .before .loop .t - 1) _ (now (s .places)) (start .pre .1 .0 .0) (omega arith) (start .pre .0))
 
   halves : c .before .before .before .loop .half ≤ 16
   halves =
       let l = c .before .before .before .loop in
-      let s = c .before .before .before .before .before .before .before .before .before .before .before in
-      let few : length (now (s .args .places)) - l .t ≤ 4 = omega arith in
+      let few : length (now (start .args .places)) - l .t ≤ 4 = omega arith in
       omega (arith, l .inv .1, pow-mono few)
 
 mul-start : tie.Need-mul-start Inv-loop μ-loop
@@ -91,10 +94,12 @@ part-add-column-end c = inside (c .before)
 
 add-column-requires : tie.Need-add-column-requires Inv-loop μ-loop
 add-column-requires c κs =
-    let l = c .before .before .before .before .before .loop in
-    let s = c .before .before .before .before .before .before .before .before .before .before .before .before .before in
     let a = c .before .before in
-    (l .inv .2 .same ∙ kept (c .before .before .before .before .before .before .before .before) ∙ s .pre .1 .1 .1, halves a, omega (arith, length-stretch (a .wide .result * s .args .b + s .args .at) (s .args .w) (now (s .args .src)) (inside a)))
+    let s = start a .args in (
+      a .before .before .before .loop .inv .2 .same ∙ kept (a .before .before .before .before .before .before) ∙ start a .pre .1 .1 .1,
+      halves a,
+      omega (arith, length-stretch (a .wide .result * s .b + s .at) (s .w) (now (s .src)) (inside a)),
+    )
 
 mul-half : tie.Need-mul-half Inv-loop μ-loop
 mul-half c = omega (arith, halves (c .before .before .before .before .before))
@@ -107,16 +112,20 @@ loop-less c = search needs
 
 loop-again : tie.Need-loop-again Inv-loop μ-loop
 loop-again c =
-    let s = c .before .before .before .before .before .before .before .before .before .before .before .before .before .before .before .before in
-    let l = c .before .before .before .before .before .before .before .before .loop in
-    let k = length (now (s .args .places)) - l .t in
-    let more : length (now (s .args .places)) - (l .t - 1) ≡ suc k = omega arith in (
+    let a = c .before .before .before .before .before in
+    let m = a .before .before .before in
+    let l = m .loop in
+    let s = start a .args in
+    let bytes = m .before .before .before .before .before .before .shared-slice-known .given in
+    let k = length (now (s .places)) - l .t in
+    let more : length (now (s .places)) - (l .t - 1) ≡ suc k = omega arith in (
       omega arith,
       ap (λ (x : ℕ). x * 2) (l .inv .1) ∙ sym (ap (λ (x : ℕ). 2 ^ x) more ∙ pow-suc 2 k),
-      chosen-more 64 (s .args .w) (s .pre .1 .0 .1) (tileAt (s .args .b) (s .args .at) (now (s .args .src)) (now (s .args .places))) _
-          (tile-byte (s .args .b) (s .args .at) (now (s .args .src)) (now (s .args .places)) (λ i. omega (arith, c .before .before .before .before .before .before .before .before .before .before .before .before .before .before .shared-slice-known .given i)))
+      chosen-more 64 (s .w) (start a .pre .1 .0 .1) (tileAt (s .b) (s .at) (now (s .src)) (now (s .places))) _
+          (tile-byte (s .b) (s .at) (now (s .src)) (now (s .places)) (λ i. omega (arith, bytes i)))
           (l .t) k (l .half) _ (l .table) _ (omega arith) (l .inv .1)
-          (λ p hp. ap (λ (x : ℕ). getD (stretch (x * s .args .b + s .args .at) (s .args .w) (now (s .args .src))) p 0) (c .before .before .before .before .before .wide .ensures) ∙ stretch-tile (s .args .b) (s .args .at) (s .args .w) (now (s .args .src)) (now (s .args .places)) (l .t - 1) p hp)
+          (λ p hp. ap (λ (x : ℕ). getD (stretch (x * s .b + s .at) (s .w) (now (s .src))) p 0) (a .wide .ensures)
+          ∙ stretch-tile (s .b) (s .at) (s .w) (now (s .src)) (now (s .places)) (l .t - 1) p hp)
           (c .before .before .add-column .ensures) (l .inv .2) _ more,
     )
 

@@ -22,7 +22,7 @@ loop-holds : tie.Need-loop-holds Inv-loop μ-loop
 loop-holds c = (omega arith, tabled-none _ _ _ _ _ _ _)
 
 -- a group begins within the places
-begins : (c : tie.In-loop Inv-loop μ-loop) → c .before .loop .g * c .before .before .before .before .before .args .size ≤ length (now (c .before .before .before .before .before .args .places))
+begins : (c : tie.In-loop Inv-loop μ-loop) → let s = c .before .before .before .before .before .args in c .before .loop .g * s .size ≤ length (now (s .places))
 begins c = c .before .before .before .before .before .pre .1 .1 .0 .begins (c .before .loop .g) (omega arith)
 
 mul-j : tie.Need-mul-j Inv-loop μ-loop
@@ -36,13 +36,16 @@ shorter-requires c κs = search needs
 
 -- the group's places end within places, and its table within the table
 module _ (c : tie.After-shorter Inv-loop μ-loop) where
-  places-end : c .before .before .loop .g * c .before .before .before .before .before .before .args .size + c .shorter .result ≤ length (now (c .before .before .before .before .before .before .args .places))
+  abbrev start : tie.Start Inv-loop μ-loop
+  start = c .before .before .before .before .before .before
+
+  places-end : c .before .before .loop .g * start .args .size + c .shorter .result ≤ length (now (start .args .places))
   places-end = omega (arith, begins (c .before))
 
   room : c .before .before .loop .g * 2048 + 2048 ≤ length (c .before .before .loop .table)
-  room = omega (arith, c .before .before .before .before .before .before .pre .1 .1 .1, c .before .before .loop .inv .1 .same)
+  room = omega (arith, start .pre .1 .1 .1, c .before .before .loop .inv .1 .same)
 
-  count : c .shorter .result ≡ columns (c .before .before .before .before .before .before .args .size) (length (now (c .before .before .before .before .before .before .args .places))) (c .before .before .loop .g)
+  count : c .shorter .result ≡ columns (start .args .size) (length (now (start .args .places))) (c .before .before .loop .g)
   count = columns-are _ _ _ _ (c .shorter .ensures .0) (c .shorter .ensures .1 .0) (c .shorter .ensures .1 .1)
 
 add-end : tie.Need-add-end Inv-loop μ-loop
@@ -74,13 +77,18 @@ part-fill-group-end-2 c = places-end (c .before)
 
 fill-group-requires : tie.Need-fill-group-requires Inv-loop μ-loop
 fill-group-requires c κs =
-    let s = c .before .before .before .before .before .before .before .before in
-    let l = c .before .before .before .before .loop in
-    let r = c .before .before .shorter .result in (
-      group-inside (s .args .b) (l .g * s .args .size) r _ (now (s .args .places)) (places-end (c .before .before)) (s .pre .0),
+    let a = c .before .before in
+    let l = a .before .before .loop in
+    let s = start a in
+    let first = l .g * s .args .size in
+    let r = a .shorter .result in (
+      group-inside (s .args .b) first r _ (now (s .args .places)) (places-end a) (s .pre .0),
       (
         s .pre .1 .0,
-        (subst⁻¹ (λ (k : ℕ). k ≤ 5) (length-stretch (l .g * s .args .size) r (now (s .args .places)) (places-end (c .before .before)) ∙ count (c .before .before)) (columns-most (s .pre .1 .1 .0) _), length-stretch (l .g * 2048) 2048 (l .table) (room (c .before .before))),
+        (
+          subst⁻¹ (λ (k : ℕ). k ≤ 5) (length-stretch first r (now (s .args .places)) (places-end a) ∙ count a) (columns-most (s .pre .1 .1 .0) _),
+          length-stretch (l .g * 2048) 2048 (l .table) (room a),
+        ),
       ),
     )
 
@@ -93,9 +101,11 @@ loop-less c = search needs
 loop-again : tie.Need-loop-again Inv-loop μ-loop
 loop-again c =
     let a = c .before .before .before .before .before in
-    let l = c .before .before .before .before .before .before .before .loop in
-    let s = c .before .before .before .before .before .before .before .before .before .before .before in
-    (omega arith, tabled-more _ _ _ _ _ _ _ (s .pre .1 .1 .0) (l .g) (a .shorter .result) (l .table) _ (room a) (omega arith) (places-end a) (count a) (length-stretch (l .g * 2048) 2048 (l .table) (room a)) (c .before .before .fill-group .ensures) (l .inv .1))
+    let l = a .before .before .loop in (
+      omega arith,
+      tabled-more _ _ _ _ _ _ _ (start a .pre .1 .1 .0) (l .g) (a .shorter .result) (l .table) _ (room a) (omega arith) (places-end a) (count a)
+          (length-stretch (l .g * 2048) 2048 (l .table) (room a)) (c .before .before .fill-group .ensures) (l .inv .1),
+    )
 
 same-length : tie.Need-same-length Inv-loop μ-loop
 same-length c = c .before .loop .inv .1 .same

@@ -43,7 +43,10 @@ same-length c = search needs
 
 returns : tie.Need-returns
 returns c =
-    sum-is 64 (c .before .before .before .before .before .before .before .before .before .before .before .before .before .before .before .args .n) (c .before .before .before .before .before .before .before .before .before .before .before .before .before .before .before .args .m) _ _ _ _ _ _ (c .before .before .before .before .before .before .before .before .before .before .before .before .before .before .before .pre .0 .1) refl (c .before .before .before .before .before .before .before .before .before .copy-block .ensures) (c .before .before .before .before .before .before .add-tile .ensures) (c .before .before .set-tile .ensures)
+    let a = c .before .before .before .before .before .before in
+    let d = a .before .before .before in
+    let s = d .before .before .before .before .before .before in
+    sum-is 64 (s .args .n) (s .args .m) _ _ _ _ _ _ (s .pre .0 .1) refl (d .copy-block .ensures) (a .add-tile .ensures) (c .before .before .set-tile .ensures)
 
 pub set-sum-spec : {M : Type 1} → statement M
 set-sum-spec =

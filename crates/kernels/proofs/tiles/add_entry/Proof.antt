@@ -16,7 +16,7 @@ returns : tie.Need-returns
 returns c = record { inside = λ lt. absurd (omega arith); beyond = λ le. refl }
 
 -- the pick stands within the picks
-inside : (c : tie.Else1) → c .before .before .before .before .args .g * 256 + c .before .before .before .before .args .q < length (now (c .before .before .before .before .args .picks))
+inside : (c : tie.Else1) → let s = c .before .before .before .before .args in s .g * 256 + s .q < length (now (s .picks))
 inside c = c .before .before .before .before .pre .1 .place (c .before .before .before .before .args .g) (omega arith)
 
 mul-n : tie.Need-mul-n
@@ -36,11 +36,11 @@ wide-requires c κs = search needs
 
 -- it names an entry that the table has
 module _ (c : tie.After-wide) where
-  pick-is : c .wide .result ≡ cell 256 (now (c .before .before .before .before .before .before .args .picks)) (c .before .before .before .before .before .before .args .g) (c .before .before .before .before .before .before .args .q)
+  pick-is : let s = c .before .before .before .before .before .before .args in c .wide .result ≡ cell 256 (now (s .picks)) (s .g) (s .q)
   unfolding cell
   pick-is = c .wide .ensures
 
-  room : (c .before .before .before .before .before .before .args .g * 32 + c .wide .result) * 64 + 64 ≤ length (now (c .before .before .before .before .before .before .args .table))
+  room : let s = c .before .before .before .before .before .before .args in (s .g * 32 + c .wide .result) * 64 + 64 ≤ length (now (s .table))
   room =
       let s = c .before .before .before .before .before .before in
       subst⁻¹ (λ (k : ℕ). (s .args .g * 32 + k) * 64 + 64 ≤ length (now (s .args .table))) pick-is (s .pre .1 .entry (s .args .g) (omega arith))
@@ -73,9 +73,11 @@ same-length c = search needs
 
 returns-2 : tie.Need-returns-2
 returns-2 c =
-    let s = c .before .before .before .before .before .before .before .before .before .before .before in
+    let a = c .before .before .before .before .before in
+    let s = a .before .before .before .before .before .before .args in
+    let e = c .before .before .add-tile .ensures in
     record {
-      inside = λ lt. c .before .before .add-tile .ensures ∙ ap (λ (k : ℕ). plus (now (s .args .sum)) (partOf 64 (s .args .g * 32 + k) (now (s .args .table)))) (pick-is (c .before .before .before .before .before));
+      inside = λ lt. e ∙ ap (λ (k : ℕ). plus (now (s .sum)) (partOf 64 (s .g * 32 + k) (now (s .table)))) (pick-is a);
       beyond = λ le. absurd (omega arith);
     }
 
