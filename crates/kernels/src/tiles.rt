@@ -110,7 +110,8 @@ fn add_tile_rows(
     requires { ⌜ (at + w ≤ b) × (w ≤ 64) ⌝ }
     requires { ⌜ (groups ≤ 7) × (length (now targets) ≤ 32) ⌝ }
     requires { ⌜ ((i s : ℕ) → i < length (now targets) → s < 8 → Reached 64 groups (i * 8 + s) (now table) (now picks)) ⌝ }
-    ensures { λ _. ⌜ Spanned b at w (now (targets .entry)) (λ i. byBits 64 groups (now (table .entry)) (now (picks .entry)) i 8) (length (now (targets .entry))) (now (out .entry)) (now (out .exit)) ⌝ }
+    ensures { λ _. ⌜ Spanned b at w (now (targets .entry)) (λ i. byBits 64 groups (now (table .entry)) (now (picks .entry)) i 8)
+        (length (now (targets .entry))) (now (out .entry)) (now (out .exit)) ⌝ }
 {
     let mut i = 0;
     while i < targets.len() {

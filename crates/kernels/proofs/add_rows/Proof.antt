@@ -31,16 +31,18 @@ wide-requires c κs = search needs
 
 -- the lent parts end within out and coeffs
 module _ (c : tie.After-wide Inv-loop μ-loop) where
-  out-end : let s = c .before .before .before .before .before .before .before .before .before .args in c .wide .result * s .b + s .b ≤ length (c .before .before .before .loop .out)
+  abbrev start : tie.Start Inv-loop μ-loop
+  start = c .before .before .before .before .before .before .before .before .before
+
+  out-end : let s = start .args in c .wide .result * s .b + s .b ≤ length (c .before .before .before .loop .out)
   out-end =
       let l = c .before .before .before .loop in
-      let s = c .before .before .before .before .before .before .before .before .before in
-      let b = s .args .b in
+      let b = start .args .b in
       subst⁻¹ (λ (k : ℕ). k * b + b ≤ length (l .out)) (c .wide .ensures)
-      (omega (arith, stretch-ends b 0 b (l .i) (length (now (s .args .out))) (now (s .args .targets)) (omega arith) (omega arith) (s .pre .target), l .inv .1 .same))
+      (omega (arith, stretch-ends b 0 b (l .i) _ (now (start .args .targets)) (omega arith) (omega arith) (start .pre .target), l .inv .1 .same))
 
-  row-end : let s = c .before .before .before .before .before .before .before .before .before .args in c .before .before .before .loop .i * s .stride + length (now (s .places)) ≤ length (now (s .coeffs))
-  row-end = c .before .before .before .before .before .before .before .before .before .pre .row (c .before .before .before .loop .i) (omega arith)
+  row-end : let s = start .args in c .before .before .before .loop .i * s .stride + length (now (s .places)) ≤ length (now (s .coeffs))
+  row-end = start .pre .row (c .before .before .before .loop .i) (omega arith)
 
 mul-at : tie.Need-mul-at Inv-loop μ-loop
 mul-at c = omega (arith, out-end c)
@@ -76,7 +78,7 @@ accumulate-requires : tie.Need-accumulate-requires Inv-loop μ-loop
 accumulate-requires c κs =
     let a = c .before .before in
     let l = a .before .before .before .loop in
-    let s = a .before .before .before .before .before .before .before .before .before in (
+    let s = start a in (
       omega (arith, length-stretch (l .i * s .args .stride) (length (now (s .args .places))) (now (s .args .coeffs)) (row-end a)),
       part-inside (s .args .b) (a .wide .result) _ (now (s .args .places)) (l .out) (out-end a) (s .pre .block),
     )

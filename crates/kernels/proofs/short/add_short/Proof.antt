@@ -39,7 +39,8 @@ shorter-requires : tie.Need-shorter-requires Inv-loop μ-loop
 shorter-requires c κs = search needs
 
 -- a tile ends within the blocks, and has at most 16 bytes
-tile-ends : (c : tie.After-shorter Inv-loop μ-loop) → (c .before .before .loop .at + c .shorter .result ≤ c .before .before .before .before .before .before .before .before .before .before .before .args .b) × (c .shorter .result ≤ 16)
+tile-ends : (c : tie.After-shorter Inv-loop μ-loop)
+    → let b = c .before .before .before .before .before .before .before .before .before .before .before .args .b in (c .before .before .loop .at + c .shorter .result ≤ b) × (c .shorter .result ≤ 16)
 tile-ends c = (omega arith, c .shorter .ensures .0)
 
 slice-aggregate-fill-short : tie.Need-slice-aggregate-fill-short Inv-loop μ-loop

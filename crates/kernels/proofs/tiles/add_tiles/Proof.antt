@@ -61,7 +61,8 @@ shorter-requires : tie.Need-shorter-requires Inv-loop μ-loop
 shorter-requires c κs = search needs
 
 -- a tile ends within the blocks, and has at most 64 bytes
-tile-ends : (c : tie.After-shorter Inv-loop μ-loop) → (c .before .before .loop .at + c .shorter .result ≤ c .before .before .before .before .before .before .before .before .before .before .before .before .before .before .before .before .args .b) × (c .shorter .result ≤ 64)
+tile-ends : (c : tie.After-shorter Inv-loop μ-loop)
+    → let b = start (c .before .before .before .before .before .before .before) .args .b in (c .before .before .loop .at + c .shorter .result ≤ b) × (c .shorter .result ≤ 64)
 tile-ends c = (omega arith, c .shorter .ensures .0)
 
 fill-groups-requires : tie.Need-fill-groups-requires Inv-loop μ-loop
