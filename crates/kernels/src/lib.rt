@@ -1,5 +1,5 @@
-// A matrix of coefficients times blocks: the loops that the calls spend their time in. The contract is narrow and holds for slices of any lengths, so that the
-// inside can be replaced by a faster one.
+// A matrix of coefficients times blocks: the loops that the calls spend their time in. The one exported function has a narrow contract, for slices of any lengths,
+// so that what stands behind it can be replaced by something faster.
 mod picks;
 mod short;
 mod tables;
@@ -14,8 +14,8 @@ ghost use lib.ListN.{length};
 ghost use Rattle.kernels.specs.Blocks.{Fits, Added};
 ghost use Rattle.kernels.specs.Blocks.{Rows, Inside, Decided, plusMultiple, Accumulated};
 
-// A matrix of coefficients times the blocks of src at the given places: row i is added to the block of out that targets names at place i. Row i of the
-// coefficients begins at i·stride.
+// A matrix of coefficients times the blocks of src at the given places: row i of the product is added to block targets[i] of out. Blocks have b bytes, and row i of
+// the coefficients begins at i·stride. Where the product does not fit the slices, nothing is written.
 pub fn add_product(
     out: &mut [u8],
     targets: &[u8],
@@ -41,7 +41,7 @@ pub fn add_product(
     add_fitting(out, targets, b, src, places, coeffs, stride);
 }
 
-// Whether the product fits. No step overflows, whatever the numbers.
+// Whether the product fits: each block and each row that it takes lies within its slice. No step overflows, whatever the numbers.
 fn fits(
     b: usize,
     stride: usize,
@@ -65,7 +65,7 @@ fn fits(
     places_fit(b, places, src)
 }
 
-// Whether each row of coefficients ends within them.
+// Whether each of the rows, of `width` coefficients, lies within the `coeffs` that there are.
 fn rows_fit(rows: usize, width: usize, stride: usize, coeffs: usize) -> bool
     ensures { λ r. ⌜ Decided (Rows rows width stride coeffs) r ⌝ }
 {
@@ -81,7 +81,7 @@ fn rows_fit(rows: usize, width: usize, stride: usize, coeffs: usize) -> bool
     rows - 1 <= (coeffs - width) / stride
 }
 
-// Whether each place names a block that src has.
+// Whether each place names a block that a slice of `src` bytes has.
 fn places_fit(b: usize, places: &[u8], src: usize) -> bool
     requires { ⌜ 0 < b ⌝ }
     ensures { λ r. ⌜ Decided (Inside b (now (places .entry)) src) r ⌝ }
@@ -121,7 +121,7 @@ fn add_fitting(
     tiles::add_tiled(out, targets, b, src, places, coeffs, stride);
 }
 
-// Whether a product goes in short tiles: several rows of few bytes, and room for eight rows and four columns.
+// Whether a product goes in short tiles: two rows or more, few bytes in all, and no more than the eight rows and four columns that short tiles have room for.
 fn prefers_short(rows: usize, b: usize, width: usize) -> bool
     ensures { λ r. ⌜ (r ≡ true → (rows ≤ 8) × (width ≤ 4)) ⌝ }
 {
@@ -140,8 +140,8 @@ fn prefers_short(rows: usize, b: usize, width: usize) -> bool
     rows * b <= 512
 }
 
-// Of a product that does not go in short tiles: whether it goes row by row. One row, or few products, do not pay for the tables of the long tiles, which have room for
-// 32 rows and 32 columns. The product of a block of b bytes takes about as long as b + 48 bytes of a longer block.
+// Whether a product that does not go in short tiles goes row by row. The long tiles have room for 32 rows and 32 columns, and their tables do not pay for one row, nor
+// for little work. The work is estimated: a block of b bytes times a coefficient takes about as long as b + 48 bytes of a long one.
 fn prefers_rows(rows: usize, b: usize, width: usize) -> bool
     ensures { λ r. ⌜ (r ≡ false → (rows ≤ 32) × (width ≤ 32)) ⌝ }
 {

@@ -1,5 +1,6 @@
-// Which entries of the groups' tables a row of coefficients sums. Of each group of columns, and each of the eight bits of a coefficient, the bits of its columns are
-// one number: the pick. The eight picks of a row and group are found together, as the bytes of one word: each column doubles the word and adds its bits, spread over the bytes.
+// Picks: which entry of a group's table a row adds at each bit. For one row, one group of columns and one of the eight bits, the pick is the number whose binary
+// digits are that bit of each of the group's coefficients. The eight picks of a row and group are found together, as the bytes of one word: each column doubles the
+// word and adds the bits of its coefficient, one to each byte.
 use base::shorter;
 ghost use mathlib.Core.Path.{_≡_};
 ghost use Prim.Native.Nat.{ℕ, _+_, _*_, _/_, _%_, _^_, _≤_, _<_};
@@ -8,7 +9,7 @@ ghost use Rattle.base.specs.Seq.{tabulate};
 ghost use Rattle.kernels.specs.Blocks.{Rows};
 ghost use Rattle.kernels.specs.Tiling.{bit, word, Grouped, pickOf, RowPicked, Picked};
 
-// picks := those of a matrix of coefficients. Those of group g begin at g·256, and the one at place i·8 + s behind belongs to row i and bit 7 - s.
+// picks := those of a matrix of coefficients. The pick of group g, row i and bit 7 - s stands at place g·256 + i·8 + s.
 pub(crate) fn fill_picks(
     picks: &mut [u8],
     groups: usize,
@@ -32,7 +33,7 @@ pub(crate) fn fill_picks(
     }
 }
 
-// Row i of the picks := that of its coefficients.
+// The picks of row i := those of its coefficients.
 fn fill_row(picks: &mut [u8], groups: usize, size: usize, i: usize, coeffs: &[u8])
     requires { ⌜ Grouped (length (now coeffs)) groups size ⌝ }
     requires { ⌜ (i < 32) × ((g : ℕ) → g < groups → g * 256 + i * 8 + 8 ≤ length (now picks)) ⌝ }
@@ -50,7 +51,7 @@ fn fill_row(picks: &mut [u8], groups: usize, size: usize, i: usize, coeffs: &[u8
     }
 }
 
-// The eight picks of at most five coefficients, as the bytes of a word, that of the highest bit the lowest byte.
+// The eight picks of at most five coefficients, as the bytes of a word: that of the highest bit is the lowest byte.
 fn word_of(coeffs: &[u8]) -> u64
     requires { ⌜ length (now coeffs) ≤ 5 ⌝ }
     ensures { λ r. ⌜ r ≡ word 8 (pickOf (now (coeffs .entry))) ⌝ }
@@ -64,9 +65,9 @@ fn word_of(coeffs: &[u8]) -> u64
     word
 }
 
-// The bits of c, each as a byte of a word, the highest the lowest byte. The factor is the sum of 2^(56 - 9b) over b from 0 to 6: it makes copies of the seven lower bits,
-// nine places apart, so that none meets another, and each brings one bit, b, to its place 56 - 8b. The mask is the sum of 2^(56 - 8b), and leaves those. The highest bit
-// has place 0.
+// The bits of c, each as a byte of a word: the highest bit is the lowest byte. The factor is the sum of 2^(56 - 9b) over b from 0 to 6: it makes seven copies of the
+// seven lower bits, nine places apart, so that none meets another, and copy b brings bit b to its place 56 - 8b. The mask is the sum of 2^(56 - 8b) over the same b, and
+// keeps these bits only. The highest bit is added at place 0.
 fn spread(c: u8) -> u64
     ensures { λ r. ⌜ r ≡ word 8 (λ s. bit s c) ⌝ }
 {
@@ -74,7 +75,7 @@ fn spread(c: u8) -> u64
     (copies & 72340172838076672) + (c / 128) as u64
 }
 
-// The bytes of a word, the lowest first.
+// picks := the eight bytes of a word, the lowest first.
 fn put_word(picks: &mut [u8], word: u64)
     requires { ⌜ length (now picks) ≡ 8 ⌝ }
     ensures { λ _. ⌜ now (picks .exit) ≡ tabulate 8 (λ s. word / 256 ^ s % 256) ⌝ }

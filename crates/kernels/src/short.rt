@@ -1,4 +1,4 @@
-// A product as in `tiles`, but in tiles of 16 bytes, for few short blocks: at most four columns, which are one group, so that the table is small, and at most eight rows.
+// A product as in `tiles`, but for few short blocks: in tiles of 16 bytes, of at most eight rows and four columns. The columns are one group, so that the table is small.
 use crate::picks::fill_picks;
 use crate::tables::add_part;
 use crate::tables::add_tile;
@@ -43,7 +43,7 @@ pub(crate) fn add_short(
     }
 }
 
-// Entry n of the table: the sum of the columns that the bits of n name, the last column by the lowest bit.
+// Entry n of the table := the sum of the columns that the bits of n name; the lowest bit names the last column. A column is the w bytes from `at` on of a block.
 fn fill_short(table: &mut [u8], b: usize, at: usize, w: usize, src: &[u8], places: &[u8])
     requires { ⌜ Inside b (now places) (length (now src)) ⌝ }
     requires { ⌜ (at + w ≤ b) × (w ≤ 16) ⌝ }
@@ -62,7 +62,7 @@ fn fill_short(table: &mut [u8], b: usize, at: usize, w: usize, src: &[u8], place
     }
 }
 
-// Entries half to 2·half - 1: each entry below half, plus the column. A byte that the column does not have counts as 00; a column of a whole tile needs no copy.
+// Entry half + m, for each m below half, := entry m plus the column. A byte that the column does not have counts as 00; a column of a whole tile needs no copy.
 fn add_short_column(table: &mut [u8], half: usize, part: &[u8])
     requires { ⌜ (length (now table) ≡ 256) × (half ≤ 8) × (length (now part) ≤ 16) ⌝ }
     ensures { λ _. ⌜ Raised 16 half half (now (part .entry)) (now (table .entry)) (now (table .exit)) ⌝ }
@@ -76,7 +76,7 @@ fn add_short_column(table: &mut [u8], half: usize, part: &[u8])
     raise_short(table, half, &tile);
 }
 
-// The same of a whole tile.
+// The same where the column is a whole tile.
 fn raise_short(table: &mut [u8], half: usize, tile: &[u8])
     requires { ⌜ (length (now table) ≡ 256) × (half ≤ 8) × (length (now tile) ≡ 16) ⌝ }
     ensures { λ _. ⌜ Raised 16 half half (now (tile .entry)) (now (table .entry)) (now (table .exit)) ⌝ }
@@ -104,7 +104,7 @@ fn set_short_sum(table: &mut [u8], n: usize, m: usize, tile: &[u8])
     copy_block(&mut table[at..stop], &sum);
 }
 
-// To the w bytes from `at` on of each target's block, their sum of the table's entries is added.
+// For each target, the w bytes from `at` on of its block += the bytes that its row takes from the table.
 fn add_short_rows(
     out: &mut [u8],
     targets: &[u8],
@@ -128,7 +128,7 @@ fn add_short_rows(
     }
 }
 
-// To at most 16 bytes of row i, their sum of the table's entries is added.
+// dst, at most 16 bytes, += those that row i takes from the table: for each bit from the top, the sum is doubled and the entry that the pick names is added.
 fn add_short_row(dst: &mut [u8], table: &[u8], picks: &[u8], i: usize)
     requires { ⌜ ((s : ℕ) → s < 8 → Reached 16 1 (i * 8 + s) (now table) (now picks)) ⌝ }
     ensures { λ _. ⌜ now (dst .exit) ≡ plus (now (dst .entry)) (tabulate 16 (byBits 16 1 (now (table .entry)) (now (picks .entry)) i 8)) ⌝ }

@@ -1,4 +1,4 @@
-// The sums of a tile, 64 bytes of a block, over every choice of columns from a group; and what is done with a tile of any length.
+// The table of a group of columns: for every choice of the columns, the sum of their tiles. A tile is 64 bytes of a block. And what is done with a tile of any length.
 use base::shorter;
 use base::wide;
 use blocks::add_block;
@@ -13,7 +13,7 @@ ghost use Rattle.blocks.specs.Bytes.{plus};
 ghost use Rattle.kernels.specs.Blocks.{Inside};
 ghost use Rattle.kernels.specs.Tiling.{Grouped, multiple, tileAt, Raised, Chosen, Tabled};
 
-// The table of every group: the sums of the w bytes from `at` on of the blocks at its places.
+// The table of each group := the sums of the w bytes from `at` on of the blocks at its places. That of group g begins at g·2048.
 pub(crate) fn fill_groups(
     table: &mut [u8],
     groups: usize,
@@ -41,7 +41,7 @@ pub(crate) fn fill_groups(
     }
 }
 
-// Entry n of a group's table: the sum of the columns that the bits of n name, the last column by the lowest bit.
+// Entry n of a group's table := the sum of the columns that the bits of n name; the lowest bit names the last column. A column is the w bytes from `at` on of a block.
 fn fill_group(table: &mut [u8], b: usize, at: usize, w: usize, src: &[u8], places: &[u8])
     requires { ⌜ Inside b (now places) (length (now src)) ⌝ }
     requires { ⌜ (at + w ≤ b) × (w ≤ 64) ⌝ }
@@ -60,7 +60,7 @@ fn fill_group(table: &mut [u8], b: usize, at: usize, w: usize, src: &[u8], place
     }
 }
 
-// Entries half to 2·half - 1: each entry below half, plus the column. A byte that the column does not have counts as 00.
+// Entry half + m, for each m below half, := entry m plus the column. A byte that the column does not have counts as 00.
 fn add_column(table: &mut [u8], half: usize, part: &[u8])
     requires { ⌜ (length (now table) ≡ 2048) × (half ≤ 16) × (length (now part) ≤ 64) ⌝ }
     ensures { λ _. ⌜ Raised 64 half half (now (part .entry)) (now (table .entry)) (now (table .exit)) ⌝ }
@@ -122,7 +122,8 @@ pub(crate) fn add_tile(x: &mut [u8], y: &[u8])
     }
 }
 
-// dst += src, which has at most 64 bytes: the fast way where dst is as long. The other way goes through a copy, so that src can stay in registers.
+// dst += src, which has at most 64 bytes; as in add_block, a byte that src does not have counts as 00. Where dst is as long, by the fast loop; else add_block is lent a
+// copy, so that src itself can stay in registers.
 pub(crate) fn add_part(dst: &mut [u8], src: &[u8])
     requires { ⌜ length (now src) ≤ 64 ⌝ }
     ensures { λ _. ⌜ now (dst .exit) ≡ plus (now (dst .entry)) (now (src .entry)) ⌝ }

@@ -1,6 +1,6 @@
-// A product in tiles of 64 bytes, by the bits of the coefficients: c·x is the sum of 02^s·x over the bits s that c has. Columns go in groups of at most five: the sums
-// of a group's tiles, up to 32, are found once, and then every row takes, for each bit from the top, one sum of each group, and doubles before the next bit. Nothing
-// branches on a coefficient.
+// A product in tiles of 64 bytes, by the bits of the coefficients: c·x is the sum of 02^s·x over the bits s that are 1 in c. Columns go in groups of at most five. The
+// sums of a group's tiles, one for each choice of them and so up to 32, are found once; then every row adds up, for each bit from the top, one sum of each group, and
+// doubles what it has before the next bit. Nothing branches on a coefficient.
 use crate::picks::fill_picks;
 use crate::tables::add_part;
 use crate::tables::add_tile;
@@ -16,8 +16,8 @@ ghost use Rattle.blocks.specs.Bytes.{plus};
 ghost use Rattle.kernels.specs.Blocks.{Inside, Fits, Added};
 ghost use Rattle.kernels.specs.Tiling.{groupsOf, sizeOf, byBits, Stepped, Gathered, Reached, Spanned};
 
-// out += a product of at most 32 rows and 32 columns. Doubling the zeros of the first tile changes nothing; it makes the compiler lay the table on a boundary
-// of 16 bytes, so that a load from it is part of a sum.
+// out += a product of at most 32 rows and 32 columns. Doubling the zeros of the first tile changes nothing, but makes the compiler lay the table on a boundary of 16
+// bytes, so that one instruction loads from it and adds.
 pub(crate) fn add_tiled(
     out: &mut [u8],
     targets: &[u8],
@@ -47,7 +47,7 @@ pub(crate) fn add_tiled(
     );
 }
 
-// out += the product, tile by tile. There is room for seven groups.
+// out += the product, tile by tile. Table and picks have room for seven groups, as many as 32 columns make.
 fn add_tiles(
     table: &mut [u8],
     picks: &mut [u8],
@@ -77,7 +77,7 @@ fn add_tiles(
     }
 }
 
-// How many groups n columns make: at least one, so that there is a size.
+// How many groups n columns make: at least one, since size_of divides by it.
 fn groups_of(n: usize) -> usize
     ensures { λ r. ⌜ r ≡ groupsOf n ⌝ }
 {
@@ -87,7 +87,7 @@ fn groups_of(n: usize) -> usize
     (n - 1) / 5 + 1
 }
 
-// How many columns each has but the last, which has those that are left.
+// How many columns each group has but the last, which has those that are left.
 fn size_of(n: usize, groups: usize) -> usize
     requires { ⌜ (n ≤ 32) × (groups ≡ groupsOf n) ⌝ }
     ensures { λ r. ⌜ r ≡ sizeOf n ⌝ }
@@ -95,7 +95,7 @@ fn size_of(n: usize, groups: usize) -> usize
     (n + groups - 1) / groups
 }
 
-// To the w bytes from `at` on of each target's block, their sum of the tables' entries is added.
+// For each target, the w bytes from `at` on of its block += the bytes that its row takes from the tables.
 fn add_tile_rows(
     out: &mut [u8],
     targets: &[u8],
@@ -122,7 +122,7 @@ fn add_tile_rows(
     }
 }
 
-// To at most 64 bytes of row i, their sum of the tables' entries is added.
+// dst, at most 64 bytes, += those that row i takes from the tables: for each bit from the top, the sum is doubled and the entries that the picks name are added.
 fn add_row(dst: &mut [u8], table: &[u8], groups: usize, picks: &[u8], i: usize)
     requires { ⌜ (groups ≤ 7) × (i < 32) ⌝ }
     requires { ⌜ ((s : ℕ) → s < 8 → Reached 64 groups (i * 8 + s) (now table) (now picks)) ⌝ }
@@ -151,7 +151,7 @@ fn add_picked(sum: &mut [u8], table: &[u8], groups: usize, picks: &[u8], q: usiz
     }
 }
 
-// sum += the entry of group g, if there is that group.
+// sum += the entry of group g that its pick at place q names, if there is that group.
 fn add_entry(sum: &mut [u8], table: &[u8], groups: usize, picks: &[u8], g: usize, q: usize)
     requires { ⌜ length (now sum) ≡ 64 ⌝ }
     requires { ⌜ Reached 64 groups q (now table) (now picks) ⌝ }
