@@ -1,4 +1,5 @@
-// Document 01's questions at the gate, one function for each call: the number of the first question whose answer is no, or 0. On numbers and lengths only.
+// Document 01's questions at the gate, one function for each call: it gives the number of the first question whose answer is no, or 0. It sees numbers, sets and
+// lengths only.
 use params::Node;
 use params::NodeSet;
 use params::Params;
@@ -14,7 +15,7 @@ ghost use Rattle.gates.specs.Gates.{shapeAsked, paramsAsked, lengthsAske
 ghost use Rattle.gates.specs.Gates.{encodeGate, checkGate, decodeGate, deltaGate, updateGate, repairGate, viewGate, reconfigureGate, damageGate};
 ghost use Rattle.gates.specs.Valid.{Valid};
 
-// The number of the first no: of the questions put before, or else of those put after.
+// Of two gates' numbers, the first that is not 0, if any: the first no where the questions of one gate are put before those of the other.
 fn first_no(before: u32, after: u32) -> u32
     ensures { λ r. ⌜ r ≡ orElse (eqb before 0) after before ⌝ }
 {
@@ -24,7 +25,7 @@ fn first_no(before: u32, after: u32) -> u32
     after
 }
 
-// Questions 1 to 4, or with 10 more 11 to 14.
+// Questions 1 to 4 of a shape; where more is 10, the same with the numbers 11 to 14.
 fn shape_gate(t: Shape, more: u32) -> u32
     requires { ⌜ more ≤ 10 ⌝ }
     ensures { λ r. ⌜ r ≡ firstNo (shapeAsked more t) ⌝ }
@@ -90,7 +91,7 @@ fn shapes_gate(a: Params, t: Shape) -> u32
     first_no(old, new)
 }
 
-// Question 7 of two sets, each with its own n.
+// Question 7 of two sets, each with its own number of nodes.
 fn names_gate(n: usize, set: NodeSet, m: usize, other: NodeSet) -> u32
     ensures { λ r. ⌜ r ≡ firstNo (namesAsked (within n (set .0) && within m (other .0)) ∷ []) ⌝ }
 {
@@ -132,7 +133,7 @@ fn set_gate(n: usize, set: NodeSet, wanted: usize) -> u32
     first_no(name, size)
 }
 
-// Set-up: the lengths are those of message, slack and record.
+// Set-up, with the lengths of message, slack and record.
 pub fn encode_gate(a: Params, message: usize, slack: usize, codeword: usize) -> u32
     ensures { λ r. ⌜ r ≡ encodeGate a message slack codeword ⌝ }
 {
@@ -152,7 +153,7 @@ pub fn encode_gate(a: Params, message: usize, slack: usize, codeword: usize) -> 
     0
 }
 
-// Check: the record's length.
+// Check, with the record's length.
 pub fn check_gate(a: Params, codeword: usize) -> u32
     ensures { λ r. ⌜ r ≡ checkGate a codeword ⌝ }
 {
@@ -166,7 +167,7 @@ pub fn check_gate(a: Params, codeword: usize) -> u32
     0
 }
 
-// Questions 1 to 8 of a call with two slices, of x and y blocks, and one set.
+// Questions 1 to 8 of a call with one set and two slices: the first is to have x blocks, the second y.
 fn set_call_gate(
     a: Params,
     first: usize,
@@ -193,28 +194,28 @@ fn set_call_gate(
     set_gate(a.n, set, wanted)
 }
 
-// Reading: the lengths of the record and of the buffer for the message, and R.
+// Reading, with the lengths of the record and of the buffer for the message, and R.
 pub fn decode_gate(a: Params, codeword: usize, out: usize, from: NodeSet) -> u32
     ensures { λ r. ⌜ r ≡ decodeGate a codeword out (from .0) ⌝ }
 {
     set_call_gate(a, codeword, a.n, out, a.k, from, a.r)
 }
 
-// Difference: the lengths of d and of the buffer for the differences, and W.
+// Difference, with the lengths of d and of the buffer for the differences, and W.
 pub fn delta_gate(a: Params, change: usize, out: usize, to: NodeSet) -> u32
     ensures { λ r. ⌜ r ≡ deltaGate a change out (to .0) ⌝ }
 {
     set_call_gate(a, change, a.k, out, a.w, to, a.w)
 }
 
-// Change: the lengths of the record and of d, and W.
+// Change, with the lengths of the record and of d, and W.
 pub fn update_gate(a: Params, codeword: usize, change: usize, to: NodeSet) -> u32
     ensures { λ r. ⌜ r ≡ updateGate a codeword change (to .0) ⌝ }
 {
     set_call_gate(a, codeword, a.n, change, a.k, to, a.w)
 }
 
-// Rebuild: the record's length, R and L.
+// Rebuild, with the record's length, R and L.
 pub fn repair_gate(a: Params, codeword: usize, from: NodeSet, lost: NodeSet) -> u32
     ensures { λ r. ⌜ r ≡ repairGate a codeword (from .0) (lost .0) ⌝ }
 {
@@ -240,7 +241,7 @@ fn lost_gate(n: usize, from: NodeSet, r: usize, lost: NodeSet) -> u32
     0
 }
 
-// View: the record's length and the trap number.
+// View, with the record's length and the trap number.
 pub fn view_gate(a: Params, codeword: usize, node: Node) -> u32
     ensures { λ r. ⌜ r ≡ viewGate a codeword (node .0) ⌝ }
 {
@@ -249,7 +250,7 @@ pub fn view_gate(a: Params, codeword: usize, node: Node) -> u32
     first_no(record, number)
 }
 
-// Rearrangement: the lengths of the old record, the new one and the new message, R and W'.
+// Rearrangement, with the lengths of the old record, the new one and the new message, R and W'.
 pub fn reconfigure_gate(
     a: Params,
     t: Shape,
@@ -286,7 +287,7 @@ fn lengths_gate(a: Params, t: Shape, old: usize, new: usize, message: usize) -> 
     0
 }
 
-// Questions 7 and 8 of two sets, each with its own n and its own size.
+// Questions 7 and 8 of two sets, each with its own number of nodes and its own size.
 fn sets_gate(n: usize, set: NodeSet, wanted: usize, m: usize, other: NodeSet, more: usize) -> u32
     ensures { λ r. ⌜ r ≡ firstNo (namesAsked (within n (set .0) && within m (other .0)) ∷ sizesAsked (eqb (size (set .0)) wanted && eqb (size (other .0)) more) ∷ []) ⌝ }
 {
