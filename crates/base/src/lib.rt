@@ -16,6 +16,7 @@ pub fn is_product(length: usize, count: usize, size: usize) -> bool
     length % size == 0
 }
 
+// A byte as a usize.
 pub fn wide(x: u8) -> usize
     ensures { λ r. ⌜ r ≡ x ⌝ }
 {

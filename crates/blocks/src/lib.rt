@@ -1,4 +1,4 @@
-// One block and another: adding, copying, clearing and comparing, each with one narrow contract for slices of any lengths.
+// Adding, copying, clearing and comparing blocks, each with one narrow contract for slices of any lengths.
 use base::shorter;
 ghost use mathlib.Core.Path.{_≡_};
 ghost use lib.ListN.{length, replicate};
@@ -40,7 +40,7 @@ pub fn clear(dst: &mut [u8])
     }
 }
 
-// Whether two blocks differ.
+// Whether two blocks differ, in their lengths or in a byte.
 pub fn differs(x: &[u8], y: &[u8]) -> bool
     ensures { λ r. ⌜ Compared (now (x .entry)) (now (y .entry)) r ⌝ }
 {

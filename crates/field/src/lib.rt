@@ -24,7 +24,7 @@ impl Elem {
         Elem(self.0 ^ other.0)
     }
 
-    // Zero times anything is zero; the exponents of two other factors in the table add up, modulo 255.
+    // Zero times anything is zero. Two other factors are powers of 02, and their exponents add up, modulo 255.
     pub fn mul(self, other: Elem) -> Elem
         ensures { λ r. ⌜ r .0 ≡ mul (self .0) (other .0) ⌝ }
     {
@@ -37,7 +37,7 @@ impl Elem {
         Elem(exp((log(self.0) + log(other.0)) % Elem::ORDER))
     }
 
-    // The inverse of zero is zero; of any other element, the exponent in the table is 255 less the element's own.
+    // The inverse of zero is zero. Any other element is a power of 02, and the exponent of its inverse is 255 less its own.
     pub fn inverse(self) -> Elem
         ensures { λ r. ⌜ Inverse (self .0) (r .0) ⌝ }
     {
@@ -47,7 +47,7 @@ impl Elem {
         Elem(exp((Elem::ORDER - log(self.0)) % Elem::ORDER))
     }
 
-    // By squaring, the exponent halved until it reaches 0.
+    // By squaring: the exponent is halved until it is 0.
     pub fn pow(self, e: u64) -> Elem
         ensures { λ r. ⌜ r .0 ≡ pow (self .0) e ⌝ }
     {
@@ -70,7 +70,7 @@ pub fn powers() -> [u8; 255]
     power_table::POWERS
 }
 
-// The table of their exponents.
+// The table of the exponents: that of each element but zero as a power of 02.
 pub fn logs() -> [u8; 256]
     ensures { λ r. ⌜ LogTable r ⌝ }
 {

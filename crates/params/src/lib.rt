@@ -37,7 +37,7 @@ pub struct Node(pub u8);
 pub struct NodeSet(pub u32);
 
 impl Params {
-    // The slack's parts; 0 where w exceeds n.
+    // How many parts the slack has: n - w, or 0 where w exceeds n.
     pub fn slack_parts(self) -> usize
         ensures { λ r. ⌜ r ≡ slackParts self ⌝ }
     {
@@ -47,7 +47,7 @@ impl Params {
         self.n - self.w
     }
 
-    // The working number, at most the largest usize.
+    // The working number: k plus the slack's parts, but at most the largest usize.
     pub fn working(self) -> usize
         ensures { λ r. ⌜ r ≡ min (working self) (2 ^ 64 - 1) ⌝ }
     {

@@ -53,8 +53,8 @@ impl NodeSet {
         NodeSet(!self.0 & ((1u32 << n) - 1))
     }
 
-    // The nodes in rising order go to the front of out, which has 32 places; what stands behind them is as it was. Gives how many they are. Where out has not 32
-    // places, nothing is written, and the answer is 0. Each turn passes the nodes up to the next of the set.
+    // The nodes in rising order go to the front of out, which has 32 places; what stands behind them is as it was. The answer is how many they are. Where out has not
+    // 32 places, nothing is written, and the answer is 0. Each turn of the loop goes on to the next node of the set; rest has those behind it.
     pub fn list(self, out: &mut [u8]) -> usize
         ensures { λ r. ⌜ Listing (self .0) (now (out .entry)) r (now (out .exit)) ⌝ }
     {

@@ -1,4 +1,4 @@
-// Places of blocks: that of node i is i - 1.
+// Block numbers: the block of node i is block i - 1 of a record.
 use super::NodeSet;
 ghost use mathlib.Core.Path.{_≡_};
 ghost use Rattle.params.specs.Nodes.{inOrder, Placing};
