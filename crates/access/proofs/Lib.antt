@@ -1,4 +1,3 @@
 mod ReadBack
 mod PowerBlocks
 mod Joined
-mod Viewed

@@ -2,7 +2,6 @@
 // Answers are document 01's numbers.
 use access::decode;
 use access::encode;
-use access::view_status;
 use code::Verdict;
 use maintenance::check;
 use maintenance::reconfigure;
@@ -15,6 +14,7 @@ use params::Params;
 use params::Shape;
 use updates::delta;
 use updates::update;
+use views::view_status;
 ghost use Rattle.code.specs.Calls.{EncodePost, DecodePost, DeltaPost, UpdatePost, RepairPost, ReconfigurePost};
 ghost use Rattle.jirvents.specs.Exports.{params, shape, CheckGave, ViewGave, InvertGave};
 

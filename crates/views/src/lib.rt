@@ -1,4 +1,4 @@
-// View: one node's block as a part of the lent codeword.
+// Document 01's view: one node's block as a part of the lent codeword, and the number that goes with it. No byte is written or computed with.
 use base::wide;
 use gates::view_gate;
 use params::Node;
@@ -12,7 +12,8 @@ ghost use Rattle.code.specs.Calls.{ViewPost};
 pub fn view(a: Params, codeword: &[u8], node: Node) -> &[u8]
     ensures { λ r. ⌜ ViewPost a (now (codeword .entry)) (node .0) (now r) ⌝ }
 {
-    if view_gate(a, codeword.len(), node) != 0 {
+    let refusal = view_gate(a, codeword.len(), node);
+    if refusal != 0 {
         return &codeword[0..0];
     }
     let b = a.b;

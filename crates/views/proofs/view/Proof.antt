@@ -1,10 +1,12 @@
 -- A node of 1..n has its block within the codeword. Assumes nothing.
+use Prim.Native.Nat.{_+_, _-_, _*_, _≤_}
 use native.Mathlib.Omega.{arith}
 use denote.Ref.{now}
-use Rattle.access.proofs.Viewed.{some, view-inside, viewed, hidden}
+use lib.ListN.{length}
+use Rattle.views.proofs.Viewed.{some, view-inside, viewed, hidden}
 use borrow.Author.Needs.{needs}
-use Rattle.access.proofs.viewing.view.Statement.{statement}
-use Rattle.access.proofs.viewing.view.Tie as tie
+use Rattle.views.proofs.view.Statement.{statement}
+use Rattle.views.proofs.view.Tie as tie
 
 view-gate-requires : tie.Need-view-gate-requires
 view-gate-requires c κs = search needs
@@ -25,13 +27,23 @@ wide-requires : tie.Need-wide-requires
 wide-requires c κs = search needs
 
 sub-start : tie.Need-sub-start
-sub-start c = omega (arith, some _ (now (c .before .before .before .before .args .codeword)) _ _ _ (c .before .before .view-gate .ensures) (c .before .if1 .left) (c .wide .ensures))
+sub-start c =
+    let s = c .before .before .before .before in
+    omega (arith, some (s .args .a) (now (s .args .codeword)) _ _ _ (c .before .before .view-gate .ensures) (c .before .if1 .left) (c .wide .ensures))
+
+-- its block ends within the codeword
+ends : (c : tie.After-wide)
+    → (c .wide .result - 1) * c .before .before .before .before .args .a .b + c .before .before .before .before .args .a .b
+    ≤ length (now (c .before .before .before .before .args .codeword))
+ends c =
+    let s = c .before .before .before .before in
+    view-inside (s .args .a) (now (s .args .codeword)) _ _ _ (c .before .before .view-gate .ensures) (c .before .if1 .left) (c .wide .ensures)
 
 mul-start : tie.Need-mul-start
-mul-start c = omega (arith, view-inside _ (now (c .before .before .before .before .args .codeword)) _ _ _ (c .before .before .view-gate .ensures) (c .before .if1 .left) (c .wide .ensures))
+mul-start c = omega (arith, ends c)
 
 add-end : tie.Need-add-end
-add-end c = omega (arith, view-inside _ (now (c .before .before .before .before .args .codeword)) _ _ _ (c .before .before .view-gate .ensures) (c .before .if1 .left) (c .wide .ensures))
+add-end c = omega (arith, ends c)
 
 sub-result-2 : tie.Need-sub-result-2
 sub-result-2 c = search needs
@@ -40,10 +52,13 @@ part-result-start-2 : tie.Need-part-result-start-2
 part-result-start-2 c = search needs
 
 part-result-end-2 : tie.Need-part-result-end-2
-part-result-end-2 c = omega (arith, view-inside _ (now (c .before .before .before .before .args .codeword)) _ _ _ (c .before .before .view-gate .ensures) (c .before .if1 .left) (c .wide .ensures))
+part-result-end-2 c = omega (arith, ends c)
 
 returns-2 : tie.Need-returns-2
-returns-2 c = viewed _ (now (c .before .before .before .before .before .args .codeword)) _ _ _ (c .before .before .before .view-gate .ensures) (c .before .before .if1 .left) (c .before .wide .ensures)
+returns-2 c =
+    let i = c .before in
+    let s = i .before .before .before .before in
+    viewed (s .args .a) (now (s .args .codeword)) _ _ _ (i .before .before .view-gate .ensures) (i .before .if1 .left) (i .wide .ensures)
 
 pub view-spec : {M : Type 1} → statement M
 view-spec =
