@@ -1,5 +1,5 @@
--- The rows that extend a change, applied to it, give what it makes of W's blocks: at each byte place the change's polynomial is 00 at the nodes outside W, so
--- that the leading rows alone take it to its values at W's nodes. Assumes nothing.
+-- The rows that extend a change, applied to it, give what it makes of the takers' blocks: at each byte place the change's polynomial is 00 at the nodes outside
+-- W, so that the leading rows alone take it to its values at the takers. Assumes nothing.
 use mathlib.Core.Path.{_≡_, sym, ap, ap₂, _∙_, subst}
 use mathlib.Core.Bool.{false, not, _&&_}
 use mathlib.Core.List.{List, _++_}
@@ -25,28 +25,26 @@ use Rattle.base.proofs.Questions.{both-known, both-le}
 use Rattle.params.proofs.Sets.{size-count, entry, outside-has, outside-size}
 use Rattle.code.specs.Code.{point, block}
 use Rattle.code.specs.Calls.{Vanishes}
-use Rattle.code.proofs.Pairs.{spread-exists}
 use Rattle.kernels.specs.Blocks.{Fits, Added}
 use Rattle.kernels.proofs.Arriving.{arriving-ext}
 use Rattle.coefficients.specs.Coefficients.{pointAt, Extends, Roomy}
 use Rattle.coefficients.proofs.Laws.{product-fits, lent-anew, first-length, first-inside, product-first}
 use Rattle.updates.specs.Spreading.{Spreadable, Spread}
 
-module _ (a : Params) (d targets old : List ℕ) (to other : ℕ) (other-word : other < 2 ^ 32) (ok : Spreadable a (length d) to targets (length old))
-    (is : (i : ℕ) → has other i ≡ (outside (a .n) to i && leb i 32)) where
+module _ (a : Params) (d targets old : List ℕ) (to takers other : ℕ) (other-word : other < 2 ^ 32)
+    (ok : Spreadable a (length d) to takers targets (length old)) (is : (i : ℕ) → has other i ≡ (outside (a .n) to i && leb i 32)) where
   -- as many nodes outside W as the slack has parts
   others : size other ≡ slackParts a
   unfolding slackParts
-  others = outside-size (a .n) to other (ok .valid .shape .n-high) is other-word (ok .to-within) ∙ ap (λ (m : ℕ). a .n - m) (ok .to-size)
+  others = outside-size (a .n) to other (ok .n-high) is other-word (ok .to-within) ∙ ap (λ (m : ℕ). a .n - m) (ok .to-size)
 
   -- what the rows ask; l is that number as the code counts it
-  pub roomy : (l leading gains : ℕ) → l ≡ slackParts a → leading ≡ a .w * a .k → gains ≡ a .w * l → Roomy (a .k) other to leading gains
+  pub roomy : (l leading gains : ℕ) → l ≡ slackParts a → leading ≡ length targets * a .k → gains ≡ length targets * l → Roomy (a .k) other takers leading gains
   roomy l leading gains hl full rest =
-      let t = ok .valid .shape in
       record {
-        most = omega (arith, t .k-le-w, t .w-le-n, t .n-high);
-        leading-room = full ∙ ap (λ (m : ℕ). m * a .k) (sym (ok .to-size));
-        gains-room = rest ∙ ap₂ _*_ (sym (ok .to-size)) (hl ∙ sym others);
+        most = omega (arith, ok .k-le-n, ok .n-high);
+        leading-room = full ∙ ap (λ (m : ℕ). m * a .k) (ok .count);
+        gains-room = rest ∙ ap₂ _*_ (ok .count) (hl ∙ sym others);
       }
 
   -- node o of them
@@ -54,10 +52,10 @@ module _ (a : Params) (d targets old : List ℕ) (to other : ℕ) (other-word : 
   other-at o h =
       let g = entry (has other) 32 o (omega (arith, size-count 32 other other-word)) in
       let y = both-known (leb 1 (suc (g .0)) && leb (suc (g .0)) (a .n)) (not (has to (suc (g .0))))
-      (sym (outside-has (a .n) to other (ok .valid .shape .n-high) is (suc (g .0))) ∙ g .2) in
+      (sym (outside-has (a .n) to other (ok .n-high) is (suc (g .0))) ∙ g .2) in
       (g .0, both-le 1 (suc (g .0)) (suc (g .0)) (a .n) (y .0) .1, not-true (has to (suc (g .0))) (y .1), g .3)
 
-  module _ (leading gains : List ℕ) (extends : Extends (a .k) other to leading gains) (bytes : Bytes d) (v : List ℕ) (vanishes : Vanishes a d to v) where
+  module _ (leading gains : List ℕ) (extends : Extends (a .k) other takers leading gains) (bytes : Bytes d) (v : List ℕ) (vanishes : Vanishes a d to v) where
     -- the change's polynomial at byte place p
     at : ℕ → ℕ → ℕ → ℕ
     at p m c = evaluate (a .k) m (λ j. cell (a .b) d j p) (λ j. cell (a .b) v j p) c
@@ -73,7 +71,8 @@ module _ (a : Params) (d targets old : List ℕ) (to other : ℕ) (other-word : 
         ap (λ (c : ℕ). at p (size other) (point c)) (g .3) ∙ at-block p (size other) (suc (g .0)) others ∙ vanishes .zero (g .0) p (g .1) (g .2) hp
 
     -- so a leading row gives the block of its node
-    at-rank : (t p : ℕ) → t < size to → p < a .b → sum (a .k) (λ i. mul (cell (a .k) leading t i) (cell (a .b) d i p)) ≡ block a d v (getD (listed to) t 0) p
+    at-rank : (t p : ℕ) → t < size takers → p < a .b
+        → sum (a .k) (λ i. mul (cell (a .k) leading t i) (cell (a .b) d i p)) ≡ block a d v (getD (listed takers) t 0) p
     unfolding at
     at-rank t p ht hp =
         sym
@@ -82,35 +81,28 @@ module _ (a : Params) (d targets old : List ℕ) (to other : ℕ) (other-word : 
         ∙ ap (add (sum (a .k) (λ i. mul (cell (a .k) leading t i) (cell (a .b) d i p))))
         (sum-zeros (size other) _ (λ o ho. ap (mul (cell (size other) gains t o)) (clears p o hp ho) ∙ mul-zero-right _))
         ∙ add-zero-right _)
-        ∙ at-block p (size other) (getD (listed to) t 0) others
+        ∙ at-block p (size other) (getD (listed takers) t 0) others
 
-  -- the targets are lent anew, whole
-  targets-whole : take (a .w) targets ≡ targets
-  targets-whole = ap (λ (m : ℕ). take m targets) (sym (ok .count)) ∙ take-length targets
-
-  pub spread : (leading gains rest order new : List ℕ) → length leading ≡ a .w * a .k → Extends (a .k) other to leading gains → Bytes d → order ≡ inOrder
-      → Added (a .b) (a .k) (take (length d) d) (take (a .w) targets) (take (a .k) order) (take (a .w * a .k) (leading ++ rest)) old new
-      → Spread a d to targets old new
+  pub spread : (leading gains rest order new : List ℕ) → length leading ≡ length targets * a .k → Extends (a .k) other takers leading gains → Bytes d → order ≡ inOrder
+      → Added (a .b) (a .k) (take (length d) d) (take (length targets) targets) (take (a .k) order) (take (length targets * a .k) (leading ++ rest)) old new
+      → Spread a d to takers targets old new
   spread leading gains rest order new full extends bytes o lent =
-      let v = ok .valid in
-      let k : a .k ≤ 32 = omega (arith, v .shape .k-le-w, v .shape .w-le-n, v .shape .n-high) in
+      let k : a .k ≤ 32 = omega (arith, ok .k-le-n, ok .n-high) in
       let made : Added (a .b) (a .k) d targets (take (a .k) order) leading old new =
-      lent-anew (a .b) (a .k) (a .w * a .k) d leading rest targets (take (a .k) order) old new full
-      (subst (λ (l : List ℕ). Added (a .b) (a .k) (take (length d) d) l (take (a .k) order) (take (a .w * a .k) (leading ++ rest)) old new) targets-whole lent) in
+      lent-anew (a .b) (a .k) (length targets * a .k) d leading rest targets (take (a .k) order) old new full
+      (subst (λ (l : List ℕ). Added (a .b) (a .k) (take (length d) d) l (take (a .k) order) (take (length targets * a .k) (leading ++ rest)) old new)
+      (take-length targets) lent) in
       let fits : Fits (a .b) (a .k) targets (take (a .k) order) (length d) (length leading) (length old) =
-      product-fits (a .b) (a .k) (length d) (length leading) (length old) targets (take (a .k) order) (v .b-low) (ok .target)
-      (omega (arith, first-length order o (a .k) k)) (omega (arith, ap (λ (m : ℕ). m * a .k) (ok .count), full))
+      product-fits (a .b) (a .k) (length d) (length leading) (length old) targets (take (a .k) order) (ok .b-low) (ok .target)
+      (omega (arith, first-length order o (a .k) k)) (omega (arith, full))
       (first-inside order o (a .k) k (a .b) (a .k) (length d) (le-refl (a .k)) (omega (arith, ok .change-length))) in
-      let s = spread-exists a to v (ok .to-within) (ok .to-size) d in
       record {
-        slack = s .0;
-        vanishes = s .1;
         same = made .same;
-        added = λ j p hp.
+        added = λ v vanishes j p hp.
             made .written fits j p hp
             ∙ ap (add (cell (a .b) old j p))
             (arriving-ext (length targets) targets _ _ j
             (λ t ht.
             product-first order o (a .k) k (a .b) (a .k) d leading t p
-            ∙ at-rank leading gains extends bytes (s .0) (s .1) t p (omega (arith, ok .count, ok .to-size)) hp));
+            ∙ at-rank leading gains extends bytes v vanishes t p (omega (arith, ok .count)) hp));
       }

@@ -11,8 +11,7 @@ use params::in_order;
 use params::places_of;
 ghost use Prim.Native.Nat.{_*_, _≤_};
 ghost use lib.ListN.{length};
-ghost use Rattle.gates.specs.Valid.{DeltaAccepted, UpdateAccepted};
-ghost use Rattle.code.specs.Calls.{DeltaPost, UpdatePost, Differences, Updated};
+ghost use Rattle.code.specs.Calls.{DeltaPost, UpdatePost};
 ghost use Rattle.updates.specs.Spreading.{Spread, Spreadable};
 
 // The differences that the change makes at the nodes of `to`, in rising order of the nodes. A refusal leaves out as it was.
@@ -23,11 +22,14 @@ pub fn delta(a: Params, change: &[u8], to: NodeSet, out: &mut [u8]) -> u32
     if refusal != 0 {
         return refusal;
     }
-    write_differences(a, change, to, out);
+    let w = a.w;
+    let order = in_order();
+    clear(out);
+    spread(a, change, to, to, &order[..w], out);
     0
 }
 
-// The same differences, added to the blocks of the nodes of `to`. A refusal leaves the codeword as it was.
+// The same differences, added to the blocks of the nodes of `to`, each at its own place. A refusal leaves the codeword as it was.
 pub fn update(a: Params, codeword: &mut [u8], change: &[u8], to: NodeSet) -> u32
     ensures { λ r. ⌜ UpdatePost a (now (change .entry)) (to .0) (now (codeword .entry)) r (now (codeword .exit)) ⌝ }
 {
@@ -35,83 +37,91 @@ pub fn update(a: Params, codeword: &mut [u8], change: &[u8], to: NodeSet) -> u32
     if refusal != 0 {
         return refusal;
     }
-    add_differences(a, codeword, change, to);
-    0
-}
-
-// An accepted difference: the blocks of out stand in rising order of the nodes.
-fn write_differences(a: Params, change: &[u8], to: NodeSet, out: &mut [u8])
-    requires { ⌜ DeltaAccepted a (length (now change)) (length (now out)) (to .0) ⌝ }
-    ensures { λ _. ⌜ Differences a (now (change .entry)) (to .0) (now (out .exit)) ⌝ }
-{
-    let w = a.w;
-    let order = in_order();
-    clear(out);
-    spread(a, change, to, &order[..w], out);
-}
-
-// An accepted change: each node's block stands at its own place.
-fn add_differences(a: Params, codeword: &mut [u8], change: &[u8], to: NodeSet)
-    requires { ⌜ UpdateAccepted a (length (now codeword)) (length (now change)) (to .0) ⌝ }
-    ensures { λ _. ⌜ Updated a (now (codeword .entry)) (now (change .entry)) (to .0) (now (codeword .exit)) ⌝ }
-{
     let w = a.w;
     let mut places = [0u8; 32];
     places_of(to, &mut places);
-    spread(a, change, to, &places[..w], codeword);
+    spread(a, change, to, to, &places[..w], codeword);
+    0
 }
 
-// What the change makes of the block of each node of `to` is added to the block of out that targets names for it. Room for the rows is no more than is
-// wanted, since it is cleared at each call.
-fn spread(a: Params, change: &[u8], to: NodeSet, targets: &[u8], out: &mut [u8])
-    requires { ⌜ Spreadable a (length (now change)) (to .0) (now targets) (length (now out)) ⌝ }
-    ensures { λ _. ⌜ Spread a (now (change .entry)) (to .0) (now (targets .entry)) (now (out .entry)) (now (out .exit)) ⌝ }
+// What a change that vanishes at the nodes outside `to` makes of the block of each of the takers is added to the block of out that targets names for it. Room
+// for the rows is no more than is wanted, since it is cleared at each call.
+fn spread(a: Params, change: &[u8], to: NodeSet, takers: NodeSet, targets: &[u8], out: &mut [u8])
+    requires { ⌜ Spreadable a (length (now change)) (to .0) (takers .0) (now targets) (length (now out)) ⌝ }
+    ensures { λ _. ⌜ Spread a (now (change .entry)) (to .0) (takers .0) (now (targets .entry)) (now (out .entry)) (now (out .exit)) ⌝ }
 {
-    if a.w * a.n <= 128 {
-        spread_narrow(a, change, to, targets, out);
+    if targets.len() * a.n <= 128 {
+        spread_128(a, change, to, takers, targets, out);
         return;
     }
     let mut leading = [0u8; 1024];
     let mut gains = [0u8; 1024];
-    spread_within(a, change, to, targets, &mut leading, &mut gains, out);
+    spread_within(
+        a,
+        change,
+        to,
+        takers,
+        targets,
+        &mut leading,
+        &mut gains,
+        out,
+    );
 }
 
-fn spread_narrow(a: Params, change: &[u8], to: NodeSet, targets: &[u8], out: &mut [u8])
-    requires { ⌜ Spreadable a (length (now change)) (to .0) (now targets) (length (now out)) ⌝ }
-    requires { ⌜ a .w * a .n ≤ 128 ⌝ }
-    ensures { λ _. ⌜ Spread a (now (change .entry)) (to .0) (now (targets .entry)) (now (out .entry)) (now (out .exit)) ⌝ }
+// The same where 128 bytes are enough.
+fn spread_128(
+    a: Params,
+    change: &[u8],
+    to: NodeSet,
+    takers: NodeSet,
+    targets: &[u8],
+    out: &mut [u8],
+)
+    requires { ⌜ Spreadable a (length (now change)) (to .0) (takers .0) (now targets) (length (now out)) ⌝ }
+    requires { ⌜ length (now targets) * a .n ≤ 128 ⌝ }
+    ensures { λ _. ⌜ Spread a (now (change .entry)) (to .0) (takers .0) (now (targets .entry)) (now (out .entry)) (now (out .exit)) ⌝ }
 {
     let mut leading = [0u8; 128];
     let mut gains = [0u8; 128];
-    spread_within(a, change, to, targets, &mut leading, &mut gains, out);
+    spread_within(
+        a,
+        change,
+        to,
+        takers,
+        targets,
+        &mut leading,
+        &mut gains,
+        out,
+    );
 }
 
-// The same, with room for the rows that take the change, and the values at the nodes outside `to`, to the values at the nodes of `to`. The values outside
-// are all 00, so that the leading rows alone are applied. What the product reads is lent anew, for the reason that encode_within of crate access gives.
+// The same, with room for the rows that take the change, and the values at the nodes outside `to`, to the values at the takers. The values outside are all
+// 00, so that the leading rows alone are applied. What the product reads is lent anew, for the reason that encode_within of crate access gives.
 fn spread_within(
     a: Params,
     change: &[u8],
     to: NodeSet,
+    takers: NodeSet,
     targets: &[u8],
     leading: &mut [u8],
     gains: &mut [u8],
     out: &mut [u8],
 )
-    requires { ⌜ Spreadable a (length (now change)) (to .0) (now targets) (length (now out)) ⌝ }
-    requires { ⌜ (a .w * a .n ≤ length (now leading)) × (a .w * a .n ≤ length (now gains)) ⌝ }
-    ensures { λ _. ⌜ Spread a (now (change .entry)) (to .0) (now (targets .entry)) (now (out .entry)) (now (out .exit)) ⌝ }
+    requires { ⌜ Spreadable a (length (now change)) (to .0) (takers .0) (now targets) (length (now out)) ⌝ }
+    requires { ⌜ (length (now targets) * a .n ≤ length (now leading)) × (length (now targets) * a .n ≤ length (now gains)) ⌝ }
+    ensures { λ _. ⌜ Spread a (now (change .entry)) (to .0) (takers .0) (now (targets .entry)) (now (out .entry)) (now (out .exit)) ⌝ }
 {
-    let w = a.w;
+    let m = targets.len();
     let k = a.k;
     let b = a.b;
     let l = a.slack_parts();
-    let leading_area = w * k;
-    let gains_area = w * l;
+    let leading_area = m * k;
+    let gains_area = m * l;
     let outside = to.outside(a.n);
     completion_rows(
         k,
         outside,
-        to,
+        takers,
         &mut leading[..leading_area],
         &mut gains[..gains_area],
     );
@@ -119,7 +129,7 @@ fn spread_within(
     let size = change.len();
     add_product(
         out,
-        &targets[..w],
+        &targets[..m],
         b,
         &change[..size],
         &order[..k],

@@ -1,20 +1,23 @@
--- Both rooms have place for the rows of at most 32 nodes. Assumes nothing.
+-- Either room has place for the rows. Assumes nothing.
 use Prim.Native.Nat.{_*_, _≤_}
 use native.Mathlib.Omega.{arith}
 use borrow.Author.Needs.{needs}
+use denote.Ref.{now}
+use lib.ListN.{length}
+use Rattle.params.proofs.Sets.{size-most}
 use Rattle.coefficients.proofs.Laws.{areas-fit}
 use Rattle.updates.proofs.spread.Statement.{statement}
 use Rattle.updates.proofs.spread.Tie as tie
 
--- room for as many rows as nodes
-room : (c : tie.Start) → c .args .a .w * c .args .a .n ≤ 1024
-room c = let t = c .pre .valid .shape in areas-fit (c .args .a .w) (c .args .a .n) (omega (arith, t .w-le-n, t .n-high)) (t .n-high)
+-- room for the rows of at most 32 takers
+room : (c : tie.Start) → length (now (c .args .targets)) * c .args .a .n ≤ 1024
+room c = areas-fit (length (now (c .args .targets))) (c .args .a .n) (omega (arith, c .pre .count, size-most (c .args .takers .0) (omega arith))) (c .pre .n-high)
 
 mul-if1 : tie.Need-mul-if1
 mul-if1 c = omega (arith, room (c .before .before .before .before))
 
-spread-narrow-requires : tie.Need-spread-narrow-requires
-spread-narrow-requires c κs = search needs
+spread-128-requires : tie.Need-spread-128-requires
+spread-128-requires c κs = search needs
 
 same-length : tie.Need-same-length
 same-length c = search needs
@@ -42,7 +45,7 @@ spread-spec =
     tie.close
     (tie.spec
     mul-if1
-    spread-narrow-requires
+    spread-128-requires
     same-length
     returns
     slice-aggregate-spread-within

@@ -1,4 +1,4 @@
--- The leading rows take the change to what it makes of W's blocks. Assumes nothing.
+-- The leading rows take the change to what it makes of the takers' blocks. Assumes nothing.
 use mathlib.Core.Path.{_≡_, sym, ap, _∙_}
 use Prim.Native.Nat.{_*_, _^_, _≤_, _<_}
 use native.Mathlib.Nat.{le-refl, mul-le-mul}
@@ -7,7 +7,8 @@ use borrow.Author.Needs.{needs}
 use denote.Ref.{now}
 use lib.ListN.{length, drop}
 use lib.Seq.{take-length, length-take-le}
-use Rattle.gates.proofs.Valid.{slack-le}
+use Rattle.params.specs.Params.{slackParts}
+use Rattle.params.proofs.Sets.{size-most}
 use Rattle.coefficients.proofs.Laws.{areas-fit, buffer-fits, buffer-count}
 use Rattle.updates.proofs.Vanishing.{roomy, spread}
 use Rattle.updates.proofs.spread_within.Statement.{statement}
@@ -16,31 +17,32 @@ use Rattle.updates.proofs.spread_within.Tie as tie
 slack-parts-requires : tie.Need-slack-parts-requires
 slack-parts-requires c κs = search needs
 
--- there is room for the rows
+-- there is room for the rows of at most 32 takers
 module _ (c : tie.After-slack-parts) where
   slack-most : c .slack-parts .result ≤ c .before .before .before .before .before .before .args .a .n
-  slack-most = omega (arith, c .slack-parts .ensures, slack-le (c .before .before .before .before .before .before .args .a) (c .before .before .before .before .before .before .pre .0 .valid))
+  unfolding slackParts
+  slack-most = omega (arith, c .slack-parts .ensures)
 
-  leading-room : c .before .before .before .before .before .before .args .a .w * c .before .before .before .before .before .before .args .a .k ≤ length (now (c .before .before .before .before .before .before .args .leading))
-  leading-room =
-      let t = c .before .before .before .before .before .before .pre .0 .valid .shape in
-      let k : c .before .before .before .before .before .before .args .a .k ≤ c .before .before .before .before .before .before .args .a .n = omega (arith, t .k-le-w, t .w-le-n) in
-      omega (arith, mul-le-mul (le-refl (c .before .before .before .before .before .before .args .a .w)) k, c .before .before .before .before .before .before .pre .1 .0)
+  takers-most : length (now (c .before .before .before .before .before .before .args .targets)) ≤ 32
+  takers-most = omega (arith, c .before .before .before .before .before .before .pre .0 .count, size-most (c .before .before .before .before .before .before .args .takers .0) (omega arith))
 
-  gains-room : c .before .before .before .before .before .before .args .a .w * c .slack-parts .result ≤ length (now (c .before .before .before .before .before .before .args .gains))
-  gains-room = omega (arith, mul-le-mul (le-refl (c .before .before .before .before .before .before .args .a .w)) slack-most, c .before .before .before .before .before .before .pre .1 .1)
+  leading-room : length (now (c .before .before .before .before .before .before .args .targets)) * c .before .before .before .before .before .before .args .a .k
+      ≤ length (now (c .before .before .before .before .before .before .args .leading))
+  leading-room = let s = c .before .before .before .before .before .before in omega (arith, mul-le-mul (le-refl (length (now (s .args .targets)))) (s .pre .0 .k-le-n), s .pre .1 .0)
+
+  gains-room : length (now (c .before .before .before .before .before .before .args .targets)) * c .slack-parts .result
+      ≤ length (now (c .before .before .before .before .before .before .args .gains))
+  gains-room = let s = c .before .before .before .before .before .before in omega (arith, mul-le-mul (le-refl (length (now (s .args .targets)))) slack-most, s .pre .1 .1)
 
 mul-leading-area : tie.Need-mul-leading-area
 mul-leading-area c =
     let s = c .before .before .before .before .before .before in
-    let t = s .pre .0 .valid .shape in
-    omega (arith, areas-fit (s .args .a .w) (s .args .a .k) (omega (arith, t .w-le-n, t .n-high)) (omega (arith, t .k-le-w, t .w-le-n, t .n-high)))
+    omega (arith, areas-fit (length (now (s .args .targets))) (s .args .a .k) (takers-most c) (omega (arith, s .pre .0 .k-le-n, s .pre .0 .n-high)))
 
 mul-gains-area : tie.Need-mul-gains-area
 mul-gains-area c =
     let s = c .before .before .before .before .before .before in
-    let t = s .pre .0 .valid .shape in
-    omega (arith, areas-fit (s .args .a .w) (c .slack-parts .result) (omega (arith, t .w-le-n, t .n-high)) (omega (arith, slack-most c, t .n-high)))
+    omega (arith, areas-fit (length (now (s .args .targets))) (c .slack-parts .result) (takers-most c) (omega (arith, slack-most c, s .pre .0 .n-high)))
 
 outside-requires : tie.Need-outside-requires
 outside-requires c κs = search needs
@@ -58,7 +60,9 @@ slice-relend-prefix-completion-rows-2 : tie.Need-slice-relend-prefix-completion-
 slice-relend-prefix-completion-rows-2 c = gains-room (c .before .before)
 
 slice-aggregate-completion-rows-2 : tie.Need-slice-aggregate-completion-rows-2
-slice-aggregate-completion-rows-2 c = sym (length-take-le _ (now (c .before .before .before .before .before .before .before .before .before .args .gains)) (slice-relend-prefix-completion-rows-2 (c .before)))
+slice-aggregate-completion-rows-2 c =
+    let s = c .before .before .before .before .before .before .before .before .before in
+    sym (length-take-le _ (now (s .args .gains)) (slice-relend-prefix-completion-rows-2 (c .before)))
 
 completion-rows-requires : tie.Need-completion-rows-requires
 completion-rows-requires c κs = search needs
@@ -69,10 +73,12 @@ in-order-requires c κs = search needs
 slice-aggregate-add-product : tie.Need-slice-aggregate-add-product
 slice-aggregate-add-product c =
     let s = c .before .before .before .before .before .before .before .before .before .before .before .before .before .before .before .before .before in
-    sym (length-take-le _ (now (s .args .targets)) (omega (arith, s .pre .0 .count)))
+    sym (ap length (take-length (now (s .args .targets))))
 
 slice-aggregate-add-product-2 : tie.Need-slice-aggregate-add-product-2
-slice-aggregate-add-product-2 c = sym (ap length (take-length (now (c .before .before .before .before .before .before .before .before .before .before .before .before .before .before .before .before .before .before .args .change))))
+slice-aggregate-add-product-2 c =
+    let s = c .before .before .before .before .before .before .before .before .before .before .before .before .before .before .before .before .before .before in
+    sym (ap length (take-length (now (s .args .change))))
 
 array-share-prefix-order : tie.Need-array-share-prefix-order
 array-share-prefix-order c = search needs
@@ -81,20 +87,23 @@ slice-aggregate-add-product-3 : tie.Need-slice-aggregate-add-product-3
 slice-aggregate-add-product-3 c = sym (length-take-le _ (c .before .before .before .before .in-order .result) (array-share-prefix-order (c .before)))
 
 -- the leading rows fill their part of the room
-leading-full : (c : tie.After-completion-rows) → length (c .completion-rows .last .1 .1 .1 .0) ≡ c .before .before .before .before .before .before .before .before .before .before .args .a .w * c .before .before .before .before .before .before .before .before .before .before .args .a .k
+leading-full : (c : tie.After-completion-rows)
+    → length (c .completion-rows .last .1 .1 .1 .0)
+    ≡ length (now (c .before .before .before .before .before .before .before .before .before .before .args .targets))
+    * c .before .before .before .before .before .before .before .before .before .before .args .a .k
 leading-full c = c .completion-rows .ensures .same-leading ∙ sym (slice-aggregate-completion-rows (c .before .before))
 
 slice-reshare-prefix-add-product : tie.Need-slice-reshare-prefix-add-product
 slice-reshare-prefix-add-product c =
     let e = c .before .before .before .before .before .before .before .before .before in
     let s = e .before .before .before .before .before .before .before .before .before .before in
-    buffer-fits _ (e .completion-rows .last .1 .1 .1 .0) (drop (s .args .a .w * s .args .a .k) (now (s .args .leading))) (leading-full e)
+    buffer-fits _ (e .completion-rows .last .1 .1 .1 .0) (drop (length (now (s .args .targets)) * s .args .a .k) (now (s .args .leading))) (leading-full e)
 
 slice-aggregate-add-product-4 : tie.Need-slice-aggregate-add-product-4
 slice-aggregate-add-product-4 c =
     let e = c .before .before .before .before .before .before .before .before .before .before in
     let s = e .before .before .before .before .before .before .before .before .before .before in
-    buffer-count _ (e .completion-rows .last .1 .1 .1 .0) (drop (s .args .a .w * s .args .a .k) (now (s .args .leading))) (leading-full e)
+    buffer-count _ (e .completion-rows .last .1 .1 .1 .0) (drop (length (now (s .args .targets)) * s .args .a .k) (now (s .args .leading))) (leading-full e)
 
 add-product-requires : tie.Need-add-product-requires
 add-product-requires c κs = search needs
@@ -118,9 +127,9 @@ returns c =
     let z = u .before in
     let s = z .before .before .before .before .before .before in
     let full = sym (slice-aggregate-completion-rows (g .before)) in
-    let room = roomy (s .args .a) (now (s .args .change)) (now (s .args .targets)) (now (s .args .out)) (s .args .to .0) (u .outside .result .0) (outside-word u) (s .pre .0)
+    let room = roomy (s .args .a) (now (s .args .change)) (now (s .args .targets)) (now (s .args .out)) (s .args .to .0) (s .args .takers .0) (u .outside .result .0) (outside-word u) (s .pre .0)
     (u .outside .ensures) _ _ _ (z .slack-parts .ensures) full (sym (slice-aggregate-completion-rows-2 g)) in
-    spread (s .args .a) (now (s .args .change)) (now (s .args .targets)) (now (s .args .out)) (s .args .to .0) (u .outside .result .0) (outside-word u) (s .pre .0)
+    spread (s .args .a) (now (s .args .change)) (now (s .args .targets)) (now (s .args .out)) (s .args .to .0) (s .args .takers .0) (u .outside .result .0) (outside-word u) (s .pre .0)
     (u .outside .ensures) (e .completion-rows .last .1 .1 .1 .0) (e .completion-rows .last .1 .1 .1 .1 .0) _ (o .in-order .result) _
     (leading-full e) (e .completion-rows .ensures .written room)
     (λ i. omega (arith, z .before .before .before .before .before .shared-slice-known .given i)) (o .in-order .ensures) (p .add-product .ensures)
