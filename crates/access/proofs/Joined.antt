@@ -8,11 +8,11 @@ use lib.ListN.{length, take, drop, length-append, length-drop}
 use lib.Seq.{length-take-le, take-at, drop-at}
 use Rattle.params.specs.Params.{working}
 use Rattle.params.specs.declared.Params.{Params}
-use Rattle.gates.specs.Valid.{EncodeAccepted}
-use Rattle.gates.proofs.Valid.{working-le, blocks-most}
+use Rattle.gates.proofs.Valid.{blocks-most}
 use Rattle.code.specs.Calls.{Encoded}
 use Rattle.blocks.specs.Bytes.{over}
 use Rattle.blocks.proofs.Laws.{over-same}
+use Rattle.access.specs.Cores.{Encodable}
 
 -- ---- two copies
 
@@ -42,16 +42,11 @@ module _ (message slack room mid last : List ℕ) (fits : length message + lengt
       ∙ sym (append-assoc message slack behind))
       ∙ take-at (message ++ slack) behind (length message + length slack) (length-append message slack)
 
--- ---- what an accepted call gives
+-- ---- and their lengths
 
-module _ (a : Params) (message slack : List ℕ) (codeword : ℕ) (ok : EncodeAccepted a (length message) (length slack) codeword) where
-  pub both-length : length message + length slack ≡ working a * a .b
-  unfolding working
-  both-length = omega (arith, ok .message-length, ok .slack-length)
-
+module _ (a : Params) (message slack : List ℕ) (codeword : ℕ) (ok : Encodable a (length message) (length slack) codeword) where
   pub both-most : length message + length slack ≤ 32768
-  both-most =
-      omega (arith, both-length, blocks-most (working a) (a .b) (omega (arith, working-le a (ok .valid), ok .valid .shape .n-high)) (ok .valid .b-high))
+  both-most = omega (arith, ok .both .parts-length, blocks-most (working a) (a .b) (ok .both .parts-high) (ok .b-high))
 
   -- of the parts side by side, the first k are the message
   pub apart : (parts new : List ℕ) → parts ≡ message ++ slack → Encoded a (take (a .k * a .b) parts) (drop (a .k * a .b) parts) new

@@ -1,3 +1,4 @@
+mod Accepted
 mod ReadBack
 mod PowerBlocks
 mod Joined

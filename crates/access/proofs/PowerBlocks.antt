@@ -2,7 +2,7 @@
 use mathlib.Core.Path.{_≡_, sym, ap, _∙_}
 use mathlib.Core.List.{List}
 use Prim.Native.Nat.{ℕ, suc, _-_, _*_, _^_, min, _≤_, _<_}
-use native.Mathlib.Nat.{le-refl}
+use native.Mathlib.Nat.{le-refl, min-eq-left}
 use native.Mathlib.Omega.{arith}
 use lib.ListN.{length, take, drop, replicate, length-replicate}
 use Rattle.base.specs.Seq.{cell}
@@ -16,29 +16,28 @@ use Rattle.interpolation.proofs.Evaluate.{evaluate-join}
 use Rattle.interpolation.proofs.Rows.{cell-take, cell-drop}
 use Rattle.params.specs.Nodes.{inOrder}
 use Rattle.params.specs.Params.{slackParts, working}
-use Rattle.gates.specs.Valid.{Valid}
 use Rattle.params.specs.declared.Params.{Params}
-use Rattle.gates.proofs.Valid.{working-is, working-le, working-held}
 use Rattle.code.specs.Code.{point, block}
 use Rattle.code.specs.Calls.{Encoded}
 use Rattle.kernels.specs.Blocks.{Fits, Added}
 use Rattle.kernels.proofs.Arriving.{ordered-product}
 use Rattle.coefficients.specs.Coefficients.{pointPowers}
 use Rattle.coefficients.proofs.Laws.{areas-fit, length-pointPowers, pointPowers-at, product-fits, first-length, first-at, first-inside, product-first}
+use Rattle.access.specs.Cores.{Raisable}
 
 -- ---- the powers
 
 -- one for each node and part
-pub powers-most : (a : Params) → Valid a → a .n * working a ≤ 1024
-powers-most a ok = areas-fit (a .n) (working a) (ok .shape .n-high) (omega (arith, working-le a ok, ok .shape .n-high))
+pub powers-most : (a : Params) (parts codeword : ℕ) → Raisable a parts codeword → a .n * working a ≤ 1024
+powers-most a parts codeword ok = areas-fit (a .n) (working a) (ok .n-high) (ok .parts-high)
 
 -- q is the number of parts, as the code counts them
-module _ (a : Params) (ok : Valid a) (q : ℕ) (count-is : q ≡ min (working a) (2 ^ 64 - 1)) where
+module _ (a : Params) (size codeword : ℕ) (ok : Raisable a size codeword) (q : ℕ) (count-is : q ≡ min (working a) (2 ^ 64 - 1)) where
   all-parts : q ≡ working a
-  all-parts = count-is ∙ working-held a ok ∙ sym (working-is a ok)
+  all-parts = count-is ∙ min-eq-left (omega (arith, ok .parts-high))
 
   pub most : q ≤ 32
-  most = omega (arith, all-parts, working-le a ok, ok .shape .n-high)
+  most = omega (arith, all-parts, ok .parts-high)
 
   pub area-is : a .n * q ≡ a .n * working a
   area-is = ap (λ (m : ℕ). a .n * m) all-parts
@@ -65,7 +64,7 @@ module _ (a : Params) (ok : Valid a) (q : ℕ) (count-is : q ≡ min (working a)
         → Added (a .b) q parts (take (a .n) order) (take q columns) rows old new
         → Encoded a (take (a .k * a .b) parts) (drop (a .k * a .b) parts) new
     encoded parts order columns old new all cleared ordered across made =
-        let few : a .n ≤ 32 = ok .shape .n-high in
+        let few : a .n ≤ 32 = ok .n-high in
         let targets : length (take (a .n) order) ≡ a .n = first-length order ordered (a .n) few in
         let room : length old ≡ a .n * a .b = ap length cleared ∙ length-replicate {A = ℕ} (a .n * a .b) 0 in
         let fits : Fits (a .b) q (take (a .n) order) (take q columns) (length parts) (length rows) (length old) =

@@ -1,6 +1,6 @@
--- The rows that take values to leading coefficients, applied to the blocks read, give the message of the one pair that gives these blocks: at each byte
--- place the blocks are the values of the pair's polynomial. Assumes nothing.
-use mathlib.Core.Path.{_≡_, sym, ap, _∙_, subst}
+-- The rows that take values to leading coefficients, applied to the blocks read, give the message of the pair that gives these blocks: at each byte place the
+-- blocks are the values of the pair's polynomial. Assumes nothing.
+use mathlib.Core.Path.{_≡_, sym, ap, _∙_}
 use mathlib.Core.List.{List}
 use Prim.Native.Nat.{ℕ, suc, _*_, _^_, _≤_, _<_}
 use native.Mathlib.Nat.{le-refl}
@@ -8,7 +8,7 @@ use native.Mathlib.Omega.{arith}
 use lib.ListN.{length, getD, take, replicate, length-replicate}
 use Rattle.base.specs.Seq.{cell}
 use Rattle.base.proofs.Seq.{cells-ext}
-use Rattle.field.specs.Field.{Bytes, mul}
+use Rattle.field.specs.Field.{mul}
 use Rattle.field.specs.FiniteSum.{sum}
 use Rattle.field.proofs.FiniteSum.{sum-ext}
 use Rattle.interpolation.specs.Polynomial.{evaluate}
@@ -16,19 +16,16 @@ use Rattle.interpolation.proofs.Rows.{cell-byte}
 use Rattle.params.specs.Nodes.{has, size, inOrder, placesOf}
 use Rattle.params.specs.Params.{slackParts, working}
 use Rattle.params.proofs.Placing.{place-of}
-use Rattle.gates.specs.Valid.{DecodeAccepted}
 use Rattle.params.specs.declared.Params.{Params}
 use Rattle.params.proofs.Sets.{within-has, size-most}
-use Rattle.gates.proofs.Valid.{working-is}
 use Rattle.code.specs.Code.{point, block, Gives}
-use Rattle.code.specs.Calls.{Decoded}
-use Rattle.code.proofs.Pairs.{from-reads, pair-exists}
 use Rattle.kernels.specs.Blocks.{Fits, Added}
 use Rattle.kernels.proofs.Arriving.{ordered-product}
 use Rattle.coefficients.specs.Coefficients.{pointAt, Reads}
 use Rattle.coefficients.proofs.Laws.{product-fits, first-length, first-at, first-inside, placed-length, placed-inside, product-placed}
+use Rattle.access.specs.Cores.{Decodable, Recovered}
 
-module _ (a : Params) (from out : ℕ) (word : from < 2 ^ 32) (codeword : List ℕ) (ok : DecodeAccepted a (length codeword) out from) where
+module _ (a : Params) (from out : ℕ) (word : from < 2 ^ 32) (codeword : List ℕ) (ok : Decodable a (length codeword) out from) where
   module _ (x v : List ℕ) (gives : Gives a x v (has from) codeword) where
     -- the block read for the set's node o is the value at its point
     value : (p o : ℕ) → p < a .b → o < size from
@@ -47,30 +44,37 @@ module _ (a : Params) (from out : ℕ) (word : from < 2 ^ 32) (codeword : List �
     unfolding working
     part-read rows reads j p hj hp =
         sum-ext (size from) _ _ (λ o ho. ap (mul (cell (size from) rows j o)) (value p o hp ho))
-        ∙ reads .takes (slackParts a) (λ j. cell (a .b) x j p) (λ j. cell (a .b) v j p) (working-is a (ok .valid) ∙ sym (ok .from-size))
+        ∙ reads .takes (slackParts a) (λ j. cell (a .b) x j p) (λ j. cell (a .b) v j p) (sym (ok .from-size))
         (λ j. cell-byte (a .b) x j p (gives .pair .message .bytes)) (λ j. cell-byte (a .b) v j p (gives .pair .slack .bytes)) j hj
 
+  -- no more parts than nodes
+  pub part-each : a .k ≤ size from
+  unfolding working
+  part-each = omega (arith, ok .from-size)
+
+  pub parts-few : a .k ≤ 32
+  parts-few = omega (arith, part-each, size-most from word)
+
   -- q is the set's size as the code counts it
-  pub decoded : (q : ℕ) (places order rows old new : List ℕ) → old ≡ replicate out 0 → Bytes codeword → q ≡ size from → places ≡ placesOf from → order ≡ inOrder
-      → length rows ≡ a .k * q → Reads (a .k) from rows → Added (a .b) q codeword (take (a .k) order) (take q places) rows old new → Decoded a codeword from new
-  decoded q places order rows old new cleared bytes hq hp ordered full reads made =
-      let v = ok .valid in
-      let few : a .k ≤ 32 = omega (arith, ok .from-size, v .shape .k-le-r, size-most from word) in
+  pub recovered : (q : ℕ) (places order rows old new : List ℕ) → old ≡ replicate out 0 → q ≡ size from → places ≡ placesOf from → order ≡ inOrder
+      → length rows ≡ a .k * q → Reads (a .k) from rows → Added (a .b) q codeword (take (a .k) order) (take q places) rows old new → Recovered a codeword from new
+  recovered q places order rows old new cleared hq hp ordered full reads made =
+      let few : a .k ≤ 32 = parts-few in
       let targets : length (take (a .k) order) ≡ a .k = first-length order ordered (a .k) few in
       let room : length old ≡ a .k * a .b = ap length cleared ∙ length-replicate {A = ℕ} out 0 ∙ ok .out-length in
       let fits : Fits (a .b) q (take (a .k) order) (take q places) (length codeword) (length rows) (length old) =
-      product-fits (a .b) q (length codeword) (length rows) (length old) (take (a .k) order) (take q places) (v .b-low)
+      product-fits (a .b) q (length codeword) (length rows) (length old) (take (a .k) order) (take q places) (ok .b-low)
       (first-inside order ordered (a .k) few (a .b) (a .k) (length old) (le-refl (a .k)) (omega (arith, room))) (omega (arith, placed-length from word places hp q hq))
       (omega (arith, ap (λ (m : ℕ). m * q) targets, full))
       (placed-inside from word places hp q hq (a .b) (a .n) (length codeword) (within-has (a .n) from word .0 (ok .from-within))
       (omega (arith, ok .codeword-length))) in
-      let g = pair-exists a v (has from) (from-reads a from v (ok .from-within) (ok .from-size)) codeword bytes in
-      let same : new ≡ g .0 =
-      cells-ext (a .b) (a .k) new (g .0) (v .b-low) (made .same ∙ room) (g .2 .pair .message .length-is)
-      (λ j p hj hb.
-      ordered-product (take (a .k) order) (λ i hi. first-at order ordered (a .k) few i (omega (arith, targets))) (a .b) q codeword (take q places) rows old new
-      fits made out cleared j p (omega (arith, targets)) hb
-      ∙ product-placed from word places hp q hq (a .b) q codeword rows j p
-      ∙ ap (λ (m : ℕ). sum m (λ o. mul (cell m rows j o) (cell (a .b) codeword (getD (placesOf from) o 0) p))) hq
-      ∙ part-read (g .0) (g .1) (g .2) rows reads j p hj hb) in
-      record { slack = g .1; gives = subst (λ (x : List ℕ). Gives a x (g .1) (has from) codeword) (sym same) (g .2) }
+      record {
+        message = λ x v gives.
+            cells-ext (a .b) (a .k) new x (ok .b-low) (made .same ∙ room) (gives .pair .message .length-is)
+            (λ j p hj hb.
+            ordered-product (take (a .k) order) (λ i hi. first-at order ordered (a .k) few i (omega (arith, targets))) (a .b) q codeword (take q places) rows old new
+            fits made out cleared j p (omega (arith, targets)) hb
+            ∙ product-placed from word places hp q hq (a .b) q codeword rows j p
+            ∙ ap (λ (m : ℕ). sum m (λ o. mul (cell m rows j o) (cell (a .b) codeword (getD (placesOf from) o 0) p))) hq
+            ∙ part-read x v gives rows reads j p hj hb);
+      }

@@ -10,45 +10,46 @@ use params::places_of;
 ghost use Prim.Native.Nat.{_*_, _≤_};
 ghost use lib.ListN.{length};
 ghost use Rattle.params.specs.Nodes.{size};
-ghost use Rattle.gates.specs.Valid.{DecodeAccepted};
-ghost use Rattle.code.specs.Calls.{DecodePost, Decoded};
+ghost use Rattle.code.specs.Calls.{DecodePost};
+ghost use Rattle.access.specs.Cores.{Decodable, Recovered};
 
 // Reads the message from the blocks of the nodes in from, whichever bytes they hold. A refusal leaves out as it was.
 pub fn decode(a: Params, codeword: &[u8], from: NodeSet, out: &mut [u8]) -> u32
     ensures { λ r. ⌜ DecodePost a (now (codeword .entry)) (from .0) (now (out .entry)) r (now (out .exit)) ⌝ }
 {
-    let number = decode_gate(a, codeword.len(), out.len(), from);
-    if number != 0 {
-        return number;
+    let refusal = decode_gate(a, codeword.len(), out.len(), from);
+    if refusal != 0 {
+        return refusal;
     }
     decode_parts(a, codeword, from, out);
     0
 }
 
-// An accepted call: makes room for the rows that take the blocks read to the message, no more than is wanted, since room is cleared at each call.
+// Reads the message from as many nodes as message and slack have parts. Room for the rows that take their blocks to the message is no more than is wanted, since
+// it is cleared at each call.
 fn decode_parts(a: Params, codeword: &[u8], from: NodeSet, out: &mut [u8])
-    requires { ⌜ DecodeAccepted a (length (now codeword)) (length (now out)) (from .0) ⌝ }
-    ensures { λ _. ⌜ Decoded a (now (codeword .entry)) (from .0) (now (out .exit)) ⌝ }
+    requires { ⌜ Decodable a (length (now codeword)) (length (now out)) (from .0) ⌝ }
+    ensures { λ _. ⌜ Recovered a (now (codeword .entry)) (from .0) (now (out .exit)) ⌝ }
 {
     if a.k * from.size() <= 128 {
-        decode_narrow(a, codeword, from, out);
+        decode_128(a, codeword, from, out);
         return;
     }
-    decode_wide(a, codeword, from, out);
+    decode_1024(a, codeword, from, out);
 }
 
-fn decode_narrow(a: Params, codeword: &[u8], from: NodeSet, out: &mut [u8])
-    requires { ⌜ DecodeAccepted a (length (now codeword)) (length (now out)) (from .0) ⌝ }
+fn decode_128(a: Params, codeword: &[u8], from: NodeSet, out: &mut [u8])
+    requires { ⌜ Decodable a (length (now codeword)) (length (now out)) (from .0) ⌝ }
     requires { ⌜ a .k * size (from .0) ≤ 128 ⌝ }
-    ensures { λ _. ⌜ Decoded a (now (codeword .entry)) (from .0) (now (out .exit)) ⌝ }
+    ensures { λ _. ⌜ Recovered a (now (codeword .entry)) (from .0) (now (out .exit)) ⌝ }
 {
     let mut rows = [0u8; 128];
     decode_within(a, codeword, from, &mut rows, out);
 }
 
-fn decode_wide(a: Params, codeword: &[u8], from: NodeSet, out: &mut [u8])
-    requires { ⌜ DecodeAccepted a (length (now codeword)) (length (now out)) (from .0) ⌝ }
-    ensures { λ _. ⌜ Decoded a (now (codeword .entry)) (from .0) (now (out .exit)) ⌝ }
+fn decode_1024(a: Params, codeword: &[u8], from: NodeSet, out: &mut [u8])
+    requires { ⌜ Decodable a (length (now codeword)) (length (now out)) (from .0) ⌝ }
+    ensures { λ _. ⌜ Recovered a (now (codeword .entry)) (from .0) (now (out .exit)) ⌝ }
 {
     let mut rows = [0u8; 1024];
     decode_within(a, codeword, from, &mut rows, out);
@@ -56,9 +57,9 @@ fn decode_wide(a: Params, codeword: &[u8], from: NodeSet, out: &mut [u8])
 
 // The same, with room for the rows. Codeword and rows are lent anew, for the reason that `encode_within` gives.
 fn decode_within(a: Params, codeword: &[u8], from: NodeSet, rows: &mut [u8], out: &mut [u8])
-    requires { ⌜ DecodeAccepted a (length (now codeword)) (length (now out)) (from .0) ⌝ }
+    requires { ⌜ Decodable a (length (now codeword)) (length (now out)) (from .0) ⌝ }
     requires { ⌜ a .k * size (from .0) ≤ length (now rows) ⌝ }
-    ensures { λ _. ⌜ Decoded a (now (codeword .entry)) (from .0) (now (out .exit)) ⌝ }
+    ensures { λ _. ⌜ Recovered a (now (codeword .entry)) (from .0) (now (out .exit)) ⌝ }
 {
     let k = a.k;
     let b = a.b;

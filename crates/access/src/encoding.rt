@@ -6,143 +6,100 @@ use gates::encode_gate;
 use kernels::add_product;
 use params::Params;
 use params::in_order;
-ghost use mathlib.Core.Path.{_≡_};
 ghost use Prim.Native.Nat.{_+_, _*_, _≤_};
 ghost use lib.ListN.{length, take, drop};
 ghost use Rattle.params.specs.Params.{working};
-ghost use Rattle.gates.specs.Valid.{Valid, EncodeAccepted};
 ghost use Rattle.code.specs.Calls.{EncodePost, Encoded};
+ghost use Rattle.access.specs.Cores.{Encodable, Raisable};
 
 // Writes the blocks of all nodes for a message and a slack, whatever the codeword's buffer held. A refusal leaves it as it was.
 pub fn encode(a: Params, message: &[u8], slack: &[u8], codeword: &mut [u8]) -> u32
     ensures { λ r. ⌜ EncodePost a (now (message .entry)) (now (slack .entry)) (now (codeword .entry)) r (now (codeword .exit)) ⌝ }
 {
-    let number = encode_gate(a, message.len(), slack.len(), codeword.len());
-    if number != 0 {
-        return number;
+    let refusal = encode_gate(a, message.len(), slack.len(), codeword.len());
+    if refusal != 0 {
+        return refusal;
     }
     encode_blocks(a, message, slack, codeword);
     0
 }
 
-// An accepted call: makes room for message and slack side by side, about as much as is wanted, since room is cleared at each call. The function for the larger rooms is
-// called at two places, and the first test is there for that alone: the compiler then keeps it apart, and a small call takes no stack for them.
+// Makes room for message and slack side by side and for the powers, about as much as is wanted, since room is cleared at each call. The function for the largest
+// is called at two places: the compiler then keeps it apart, and a small call takes no stack for it.
 fn encode_blocks(a: Params, message: &[u8], slack: &[u8], codeword: &mut [u8])
-    requires { ⌜ EncodeAccepted a (length (now message)) (length (now slack)) (length (now codeword)) ⌝ }
+    requires { ⌜ Encodable a (length (now message)) (length (now slack)) (length (now codeword)) ⌝ }
     ensures { λ _. ⌜ Encoded a (now (message .entry)) (now (slack .entry)) (now (codeword .exit)) ⌝ }
 {
-    if 512 < a.b {
-        encode_large(a, message, slack, codeword);
+    if 128 < a.n * a.working() {
+        encode_32768(a, message, slack, codeword);
         return;
     }
     let size = message.len() + slack.len();
     if size <= 64 {
-        encode_least(a, message, slack, codeword);
+        encode_64(a, message, slack, codeword);
         return;
     }
     if size <= 1024 {
-        encode_few(a, message, slack, codeword);
+        encode_1024(a, message, slack, codeword);
         return;
     }
-    encode_large(a, message, slack, codeword);
+    encode_32768(a, message, slack, codeword);
 }
 
-fn encode_large(a: Params, message: &[u8], slack: &[u8], codeword: &mut [u8])
-    requires { ⌜ EncodeAccepted a (length (now message)) (length (now slack)) (length (now codeword)) ⌝ }
-    ensures { λ _. ⌜ Encoded a (now (message .entry)) (now (slack .entry)) (now (codeword .exit)) ⌝ }
-{
-    if message.len() + slack.len() <= 10240 {
-        encode_more(a, message, slack, codeword);
-        return;
-    }
-    encode_many(a, message, slack, codeword);
-}
-
-fn encode_least(a: Params, message: &[u8], slack: &[u8], codeword: &mut [u8])
-    requires { ⌜ EncodeAccepted a (length (now message)) (length (now slack)) (length (now codeword)) ⌝ }
-    requires { ⌜ length (now message) + length (now slack) ≤ 64 ⌝ }
+fn encode_64(a: Params, message: &[u8], slack: &[u8], codeword: &mut [u8])
+    requires { ⌜ Encodable a (length (now message)) (length (now slack)) (length (now codeword)) ⌝ }
+    requires { ⌜ (length (now message) + length (now slack) ≤ 64) × (a .n * working a ≤ 128) ⌝ }
     ensures { λ _. ⌜ Encoded a (now (message .entry)) (now (slack .entry)) (now (codeword .exit)) ⌝ }
 {
     let mut parts = [0u8; 64];
-    encode_joined(a, message, slack, &mut parts, codeword);
+    let mut rows = [0u8; 128];
+    encode_joined(a, message, slack, &mut parts, &mut rows, codeword);
 }
 
-fn encode_few(a: Params, message: &[u8], slack: &[u8], codeword: &mut [u8])
-    requires { ⌜ EncodeAccepted a (length (now message)) (length (now slack)) (length (now codeword)) ⌝ }
-    requires { ⌜ length (now message) + length (now slack) ≤ 1024 ⌝ }
+fn encode_1024(a: Params, message: &[u8], slack: &[u8], codeword: &mut [u8])
+    requires { ⌜ Encodable a (length (now message)) (length (now slack)) (length (now codeword)) ⌝ }
+    requires { ⌜ (length (now message) + length (now slack) ≤ 1024) × (a .n * working a ≤ 128) ⌝ }
     ensures { λ _. ⌜ Encoded a (now (message .entry)) (now (slack .entry)) (now (codeword .exit)) ⌝ }
 {
     let mut parts = [0u8; 1024];
-    encode_joined(a, message, slack, &mut parts, codeword);
+    let mut rows = [0u8; 128];
+    encode_joined(a, message, slack, &mut parts, &mut rows, codeword);
 }
 
-fn encode_more(a: Params, message: &[u8], slack: &[u8], codeword: &mut [u8])
-    requires { ⌜ EncodeAccepted a (length (now message)) (length (now slack)) (length (now codeword)) ⌝ }
-    requires { ⌜ length (now message) + length (now slack) ≤ 10240 ⌝ }
-    ensures { λ _. ⌜ Encoded a (now (message .entry)) (now (slack .entry)) (now (codeword .exit)) ⌝ }
-{
-    let mut parts = [0u8; 10240];
-    encode_joined(a, message, slack, &mut parts, codeword);
-}
-
-fn encode_many(a: Params, message: &[u8], slack: &[u8], codeword: &mut [u8])
-    requires { ⌜ EncodeAccepted a (length (now message)) (length (now slack)) (length (now codeword)) ⌝ }
+fn encode_32768(a: Params, message: &[u8], slack: &[u8], codeword: &mut [u8])
+    requires { ⌜ Encodable a (length (now message)) (length (now slack)) (length (now codeword)) ⌝ }
     ensures { λ _. ⌜ Encoded a (now (message .entry)) (now (slack .entry)) (now (codeword .exit)) ⌝ }
 {
     let mut parts = [0u8; 32768];
-    encode_joined(a, message, slack, &mut parts, codeword);
+    let mut rows = [0u8; 1024];
+    encode_joined(a, message, slack, &mut parts, &mut rows, codeword);
 }
 
-// The same, with room for message and slack.
-fn encode_joined(a: Params, message: &[u8], slack: &[u8], parts: &mut [u8], codeword: &mut [u8])
-    requires { ⌜ EncodeAccepted a (length (now message)) (length (now slack)) (length (now codeword)) ⌝ }
-    requires { ⌜ length (now message) + length (now slack) ≤ length (now parts) ⌝ }
+// The same, with room for message and slack, and for the powers.
+fn encode_joined(
+    a: Params,
+    message: &[u8],
+    slack: &[u8],
+    parts: &mut [u8],
+    rows: &mut [u8],
+    codeword: &mut [u8],
+)
+    requires { ⌜ Encodable a (length (now message)) (length (now slack)) (length (now codeword)) ⌝ }
+    requires { ⌜ (length (now message) + length (now slack) ≤ length (now parts)) × (a .n * working a ≤ length (now rows)) ⌝ }
     ensures { λ _. ⌜ Encoded a (now (message .entry)) (now (slack .entry)) (now (codeword .exit)) ⌝ }
 {
     let first = message.len();
     let last = first + slack.len();
     copy_block(&mut parts[..first], message);
     copy_block(&mut parts[first..last], slack);
-    encode_parts(a, &parts[..last], codeword);
+    encode_within(a, &parts[..last], rows, codeword);
 }
 
-// The message is the first k parts, the slack the others. Here room is made for the powers, again no more than is wanted.
-fn encode_parts(a: Params, parts: &[u8], codeword: &mut [u8])
-    requires { ⌜ Valid a ⌝ }
-    requires { ⌜ (length (now parts) ≡ working a * a .b) × (length (now codeword) ≡ a .n * a .b) ⌝ }
-    ensures { λ _. ⌜ Encoded a (take (a .k * a .b) (now (parts .entry))) (drop (a .k * a .b) (now (parts .entry))) (now (codeword .exit)) ⌝ }
-{
-    if a.n * a.working() <= 128 {
-        encode_narrow(a, parts, codeword);
-        return;
-    }
-    encode_wide(a, parts, codeword);
-}
-
-fn encode_narrow(a: Params, parts: &[u8], codeword: &mut [u8])
-    requires { ⌜ Valid a ⌝ }
-    requires { ⌜ (length (now parts) ≡ working a * a .b) × (length (now codeword) ≡ a .n * a .b) ⌝ }
-    requires { ⌜ a .n * working a ≤ 128 ⌝ }
-    ensures { λ _. ⌜ Encoded a (take (a .k * a .b) (now (parts .entry))) (drop (a .k * a .b) (now (parts .entry))) (now (codeword .exit)) ⌝ }
-{
-    let mut rows = [0u8; 128];
-    encode_within(a, parts, &mut rows, codeword);
-}
-
-fn encode_wide(a: Params, parts: &[u8], codeword: &mut [u8])
-    requires { ⌜ Valid a ⌝ }
-    requires { ⌜ (length (now parts) ≡ working a * a .b) × (length (now codeword) ≡ a .n * a .b) ⌝ }
-    ensures { λ _. ⌜ Encoded a (take (a .k * a .b) (now (parts .entry))) (drop (a .k * a .b) (now (parts .entry))) (now (codeword .exit)) ⌝ }
-{
-    let mut rows = [0u8; 1024];
-    encode_within(a, parts, &mut rows, codeword);
-}
-
-// The same, with room for the powers: a row for each node, a column for each part. Parts and rows are lent anew: a slice that is handed on as it came is copied,
-// pointer and length at once, just after these were stored one by one, and such a copy waits for the stores.
+// The message is the first k parts, the slack the others. There is room for the powers: a row for each node, a column for each part. Parts and rows are lent
+// anew: a slice that is handed on as it came is copied, pointer and length at once, just after these were stored one by one, and such a copy waits for the
+// stores.
 fn encode_within(a: Params, parts: &[u8], rows: &mut [u8], codeword: &mut [u8])
-    requires { ⌜ Valid a ⌝ }
-    requires { ⌜ (length (now parts) ≡ working a * a .b) × (length (now codeword) ≡ a .n * a .b) ⌝ }
+    requires { ⌜ Raisable a (length (now parts)) (length (now codeword)) ⌝ }
     requires { ⌜ a .n * working a ≤ length (now rows) ⌝ }
     ensures { λ _. ⌜ Encoded a (take (a .k * a .b) (now (parts .entry))) (drop (a .k * a .b) (now (parts .entry))) (now (codeword .exit)) ⌝ }
 {

@@ -1,8 +1,13 @@
--- The gate's number, and the core where it is 0. Assumes nothing.
+-- The gate's number, and the core where it is 0. R of r nodes has exactly one pair that gives its blocks. Assumes nothing.
 use mathlib.Core.Path.{refl, sym, _∙_}
+use native.Mathlib.Omega.{arith}
+use borrow.Author.Needs.{needs}
+use denote.Ref.{now}
+use lib.ListN.{length}
+use Rattle.gates.specs.Valid.{DecodeAccepted}
 use Rattle.gates.proofs.Valid.{decode-accepted}
 use Rattle.code.proofs.Posts.{served, refused}
-use borrow.Author.Needs.{needs}
+use Rattle.access.proofs.Accepted.{decodable, decoded}
 use Rattle.access.proofs.decoding.decode.Statement.{statement}
 use Rattle.access.proofs.decoding.decode.Tie as tie
 
@@ -12,8 +17,13 @@ decode-gate-requires c κs = search needs
 returns : tie.Need-returns
 returns c = refused _ _ (c .before .decode-gate .ensures) (c .if1 .taken) refl
 
+-- what the gate's 0 says
+accepted : (c : tie.Else1)
+    → let s = c .before .before .before .before .args in DecodeAccepted (s .a) (length (now (s .codeword))) (length (now (s .out))) (s .from .0)
+accepted c = decode-accepted _ _ _ _ .0 (sym (c .before .decode-gate .ensures) ∙ c .if1 .left)
+
 decode-parts-requires : tie.Need-decode-parts-requires
-decode-parts-requires c κs = decode-accepted _ _ _ _ .0 (sym (c .before .before .decode-gate .ensures) ∙ c .before .if1 .left)
+decode-parts-requires c κs = decodable _ _ _ _ (accepted (c .before))
 
 same-length : tie.Need-same-length
 same-length c = search needs
@@ -21,8 +31,10 @@ same-length c = search needs
 returns-2 : tie.Need-returns-2
 returns-2 c =
     let d = c .before .before in
-    let t = d .before .before in
-    served _ (sym (t .before .decode-gate .ensures) ∙ t .if1 .left) (d .decode-parts .ensures)
+    let e = d .before .before in
+    let s = e .before .before .before .before in
+    served _ (sym (e .before .decode-gate .ensures) ∙ e .if1 .left)
+    (decoded (s .args .a) _ (now (s .args .codeword)) _ _ (accepted e) (λ i. omega (arith, e .before .before .before .shared-slice-known .given i)) (d .decode-parts .ensures))
 
 pub decode-spec : {M : Type 1} → statement M
 decode-spec =

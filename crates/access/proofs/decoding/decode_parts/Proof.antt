@@ -1,10 +1,12 @@
 -- The test is on the number of coefficients. Assumes nothing.
 use mathlib.Core.Path.{subst}
-use Prim.Native.Nat.{ℕ, _*_, _≤_}
+use Prim.Native.Nat.{ℕ, _*_, _^_, _≤_, _<_}
 use native.Mathlib.Omega.{arith}
 use borrow.Author.Needs.{needs}
+use denote.Ref.{now}
 use Rattle.params.proofs.Sets.{size-most}
 use Rattle.coefficients.proofs.Laws.{areas-fit}
+use Rattle.access.proofs.ReadBack.{parts-few}
 use Rattle.access.proofs.decoding.decode_parts.Statement.{statement}
 use Rattle.access.proofs.decoding.decode_parts.Tie as tie
 
@@ -15,11 +17,11 @@ mul-if1 : tie.Need-mul-if1
 mul-if1 c =
     let z = c .before in
     let s = z .before .before .before in
-    let few = s .pre .valid .shape in
-    omega (arith, areas-fit (s .args .a .k) (z .size .result) (omega (arith, few .k-le-r, few .r-le-n, few .n-high)) (omega (arith, z .size .ensures, size-most (s .args .from .0) (omega arith))))
+    let word : s .args .from .0 < 2 ^ 32 = omega arith in
+    omega (arith, areas-fit (s .args .a .k) (z .size .result) (parts-few _ _ _ word (now (s .args .codeword)) (s .pre)) (omega (arith, z .size .ensures, size-most (s .args .from .0) word)))
 
-decode-narrow-requires : tie.Need-decode-narrow-requires
-decode-narrow-requires c κs =
+decode-128-requires : tie.Need-decode-128-requires
+decode-128-requires c κs =
     let t = c .before in
     let z = t .before .before in
     let s = z .before .before .before in
@@ -31,8 +33,8 @@ same-length c = search needs
 returns : tie.Need-returns
 returns c = search needs
 
-decode-wide-requires : tie.Need-decode-wide-requires
-decode-wide-requires c κs = search needs
+decode-1024-requires : tie.Need-decode-1024-requires
+decode-1024-requires c κs = search needs
 
 same-length-2 : tie.Need-same-length-2
 same-length-2 c = search needs
@@ -46,9 +48,9 @@ decode-parts-spec =
     (tie.spec
     size-requires
     mul-if1
-    decode-narrow-requires
+    decode-128-requires
     same-length
     returns
-    decode-wide-requires
+    decode-1024-requires
     same-length-2
     returns-2)

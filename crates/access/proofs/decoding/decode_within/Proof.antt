@@ -10,7 +10,7 @@ use Rattle.params.specs.Nodes.{size, placesOf}
 use Rattle.params.proofs.Sets.{size-most}
 use Rattle.params.proofs.Placing.{placing-zeros}
 use Rattle.coefficients.proofs.Laws.{areas-fit, buffer-fits, buffer-count, lent-anew}
-use Rattle.access.proofs.ReadBack.{decoded}
+use Rattle.access.proofs.ReadBack.{part-each, parts-few, recovered}
 use Rattle.access.proofs.decoding.decode_within.Statement.{statement}
 use Rattle.access.proofs.decoding.decode_within.Tie as tie
 
@@ -26,13 +26,14 @@ most c = omega (arith, c .size .ensures, size-most (c .before .before .before .b
 
 -- and room for their rows
 area : (c : tie.After-size) → c .before .before .before .before .args .a .k * c .size .result ≤ length (now (c .before .before .before .before .args .rows))
-area c = subst⁻¹ (λ (n : ℕ). c .before .before .before .before .args .a .k * n ≤ length (now (c .before .before .before .before .args .rows))) (c .size .ensures) (c .before .before .before .before .pre .1)
+area c =
+    let s = c .before .before .before .before in
+    subst⁻¹ (λ (n : ℕ). s .args .a .k * n ≤ length (now (s .args .rows))) (c .size .ensures) (s .pre .1)
 
 mul-area : tie.Need-mul-area
 mul-area c =
     let s = c .before .before .before .before in
-    let few = s .pre .0 .valid .shape in
-    omega (arith, areas-fit (s .args .a .k) (c .size .result) (omega (arith, few .k-le-r, few .r-le-n, few .n-high)) (most c))
+    omega (arith, areas-fit (s .args .a .k) (c .size .result) (parts-few _ _ _ (word s) (now (s .args .codeword)) (s .pre .0)) (most c))
 
 slice-aggregate-places-of : tie.Need-slice-aggregate-places-of
 slice-aggregate-places-of c = search needs
@@ -54,7 +55,9 @@ reading-rows-requires : tie.Need-reading-rows-requires
 reading-rows-requires c κs = search needs
 
 -- which the rows fill
-filled : (c : tie.After-reading-rows) → length (c .reading-rows .last .1 .1 .0) ≡ c .before .before .before .before .before .before .before .before .before .args .a .k * c .before .before .before .before .before .size .result
+filled : (c : tie.After-reading-rows)
+    → length (c .reading-rows .last .1 .1 .0)
+    ≡ c .before .before .before .before .before .before .before .before .before .args .a .k * c .before .before .before .before .before .size .result
 filled c = c .reading-rows .ensures .same ∙ sym (slice-aggregate-reading-rows (c .before))
 
 in-order-requires : tie.Need-in-order-requires
@@ -64,19 +67,25 @@ clear-requires : tie.Need-clear-requires
 clear-requires c κs = search needs
 
 array-share-prefix-order : tie.Need-array-share-prefix-order
-array-share-prefix-order c = search needs
+array-share-prefix-order c =
+    let s = c .before .before .before .before .before .before .before .before .before .before .before .before .before .before .before .before .before in
+    omega (arith, parts-few _ _ _ (word s) (now (s .args .codeword)) (s .pre .0))
 
 slice-aggregate-add-product : tie.Need-slice-aggregate-add-product
 slice-aggregate-add-product c = sym (length-take-le _ (c .before .before .before .before .before .before .in-order .result) (array-share-prefix-order (c .before)))
 
 slice-aggregate-add-product-2 : tie.Need-slice-aggregate-add-product-2
-slice-aggregate-add-product-2 c = sym (ap length (take-length (now (c .before .before .before .before .before .before .before .before .before .before .before .before .before .before .before .before .before .before .before .args .codeword))))
+slice-aggregate-add-product-2 c =
+    let s = c .before .before .before .before .before .before .before .before .before .before .before .before .before .before .before .before .before .before .before in
+    sym (ap length (take-length (now (s .args .codeword))))
 
 array-share-prefix-places : tie.Need-array-share-prefix-places
-array-share-prefix-places c = search needs
+array-share-prefix-places c = omega (arith, most (c .before .before .before .before .before .before .before .before .before .before .before .before .before .before .before))
 
 slice-aggregate-add-product-3 : tie.Need-slice-aggregate-add-product-3
-slice-aggregate-add-product-3 c = sym (length-take-le _ (c .before .before .before .before .before .before .before .before .before .before .before .before .before .before .places-of .last .1 .0) (array-share-prefix-places (c .before)))
+slice-aggregate-add-product-3 c =
+    let l = c .before .before .before .before .before .before .before .before .before .before .before .before .before .before in
+    sym (length-take-le _ (l .places-of .last .1 .0) (array-share-prefix-places (c .before)))
 
 slice-reshare-prefix-add-product : tie.Need-slice-reshare-prefix-add-product
 slice-reshare-prefix-add-product c =
@@ -111,10 +120,10 @@ returns c =
     let q = z .size .result in
     let rows = r .reading-rows .last .1 .1 .0 in
     let rest = drop (s .args .a .k * q) (now (s .args .rows)) in
-    let few : s .args .a .k ≤ size (s .args .from .0) = omega (arith, s .pre .0 .from-size, s .pre .0 .valid .shape .k-le-r) in
+    let few : s .args .a .k ≤ size (s .args .from .0) = part-each _ _ _ (word s) (now (s .args .codeword)) (s .pre .0) in
     let room = sym (slice-aggregate-reading-rows (r .before)) ∙ ap (λ (n : ℕ). s .args .a .k * n) (z .size .ensures) in
-    decoded (s .args .a) (s .args .from .0) _ (word s) (now (s .args .codeword)) (s .pre .0) q (l .places-of .last .1 .0)
-    (o .in-order .result) rows _ _ (e .clear .ensures) (λ i. omega (arith, z .before .before .before .shared-slice-known .given i))
+    recovered (s .args .a) (s .args .from .0) _ (word s) (now (s .args .codeword)) (s .pre .0) q (l .places-of .last .1 .0)
+    (o .in-order .result) rows _ _ (e .clear .ensures)
     (z .size .ensures) (places l) (o .in-order .ensures) (filled r) (r .reading-rows .ensures .written (record { few = few; room = room }))
     (lent-anew (s .args .a .b) q _ (now (s .args .codeword)) rows rest _ _ _ _ (filled r) (p .add-product .ensures))
 

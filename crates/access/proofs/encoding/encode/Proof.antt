@@ -3,6 +3,7 @@ use mathlib.Core.Path.{refl, sym, _∙_}
 use Rattle.gates.proofs.Valid.{encode-accepted}
 use Rattle.code.proofs.Posts.{served, refused}
 use borrow.Author.Needs.{needs}
+use Rattle.access.proofs.Accepted.{encodable}
 use Rattle.access.proofs.encoding.encode.Statement.{statement}
 use Rattle.access.proofs.encoding.encode.Tie as tie
 
@@ -13,7 +14,7 @@ returns : tie.Need-returns
 returns c = refused _ _ (c .before .encode-gate .ensures) (c .if1 .taken) refl
 
 encode-blocks-requires : tie.Need-encode-blocks-requires
-encode-blocks-requires c κs = encode-accepted _ _ _ _ .0 (sym (c .before .before .encode-gate .ensures) ∙ c .before .if1 .left)
+encode-blocks-requires c κs = encodable _ _ _ _ (encode-accepted _ _ _ _ .0 (sym (c .before .before .encode-gate .ensures) ∙ c .before .if1 .left))
 
 same-length : tie.Need-same-length
 same-length c = search needs

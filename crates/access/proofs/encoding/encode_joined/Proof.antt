@@ -1,11 +1,13 @@
 -- Message and slack are copied to the front of the room, and the blocks found from there. Assumes nothing.
-use mathlib.Core.Path.{_≡_, sym, ap, _∙_}
+use mathlib.Core.Path.{_≡_, sym, ap, _∙_, subst}
 use mathlib.Core.List.{_++_}
+use Prim.Native.Nat.{ℕ}
 use borrow.Author.Needs.{needs}
 use denote.Ref.{now}
 use lib.ListN.{length, length-append}
 use lib.Seq.{length-take-le}
-use Rattle.access.proofs.Joined.{front, joined, both-length, apart}
+use Rattle.access.specs.Cores.{Raisable}
+use Rattle.access.proofs.Joined.{front, joined, apart}
 use Rattle.access.proofs.encoding.encode_joined.Statement.{statement}
 use Rattle.access.proofs.encoding.encode_joined.Tie as tie
 
@@ -16,7 +18,7 @@ slice-relend-prefix-copy-block : tie.Need-slice-relend-prefix-copy-block
 slice-relend-prefix-copy-block c = search needs
 
 slice-aggregate-copy-block : tie.Need-slice-aggregate-copy-block
-slice-aggregate-copy-block c = sym (length-take-le _ (now (c .before .before .before .before .before .args .parts)) (slice-relend-prefix-copy-block (c .before)))
+slice-aggregate-copy-block c = sym (length-take-le _ (now (c .before .before .before .before .before .before .args .parts)) (slice-relend-prefix-copy-block (c .before)))
 
 copy-block-requires : tie.Need-copy-block-requires
 copy-block-requires c κs = search needs
@@ -35,27 +37,28 @@ copy-block-requires-2 c κs = search needs
 
 -- both are back
 both : (c : tie.After-copy-block2)
-    → front (now (c .before .before .before .before .before .before .before .before .before .before .args .message)) (now (c .before .before .before .before .before .before .before .before .before .before .args .slack)) (now (c .before .before .before .before .before .before .before .before .before .before .args .parts)) (c .before .before .before .before .copy-block .last .0) (c .copy-block2 .last .0)
-    ≡ now (c .before .before .before .before .before .before .before .before .before .before .args .message) ++ now (c .before .before .before .before .before .before .before .before .before .before .args .slack)
+    → let s = c .before .before .before .before .before .before .before .before .before .before .before .args in
+    front (now (s .message)) (now (s .slack)) (now (s .parts)) (c .before .before .before .before .copy-block .last .0) (c .copy-block2 .last .0)
+    ≡ now (s .message) ++ now (s .slack)
 both c =
     let m = c .before .before .before .before in
-    let s = m .before .before .before .before .before .before in
-    joined (now (s .args .message)) (now (s .args .slack)) (now (s .args .parts)) _ _ (s .pre .1) (m .copy-block .ensures) (c .copy-block2 .ensures)
+    let s = m .before .before .before .before .before .before .before in
+    joined (now (s .args .message)) (now (s .args .slack)) (now (s .args .parts)) _ _ (s .pre .1 .0) (m .copy-block .ensures) (c .copy-block2 .ensures)
 
-slice-reshare-prefix-encode-parts : tie.Need-slice-reshare-prefix-encode-parts
-slice-reshare-prefix-encode-parts c = search needs
+slice-reshare-prefix-encode-within : tie.Need-slice-reshare-prefix-encode-within
+slice-reshare-prefix-encode-within c = search needs
 
-slice-aggregate-encode-parts : tie.Need-slice-aggregate-encode-parts
-slice-aggregate-encode-parts c =
+slice-aggregate-encode-within : tie.Need-slice-aggregate-encode-within
+slice-aggregate-encode-within c =
     let d = c .before .before .before in
-    let s = d .before .before .before .before .before .before .before .before .before .before in
+    let s = d .before .before .before .before .before .before .before .before .before .before .before in
     sym (ap length (both d) ∙ length-append (now (s .args .message)) (now (s .args .slack)))
 
-encode-parts-requires : tie.Need-encode-parts-requires
-encode-parts-requires c κs =
-    let s = c .before .before .before .before .before .before .before .before .before .before .before .before .before .before in
-    let whole = both-length (s .args .a) (now (s .args .message)) (now (s .args .slack)) _ (s .pre .0) in
-    (s .pre .0 .valid, (sym (slice-aggregate-encode-parts (c .before)) ∙ whole, s .pre .0 .codeword-length))
+encode-within-requires : tie.Need-encode-within-requires
+encode-within-requires c κs =
+    let s = c .before .before .before .before .before .before .before .before .before .before .before .before .before .before .before .before in
+    let whole = slice-aggregate-encode-within (c .before .before) in
+    (subst (λ (m : ℕ). Raisable (s .args .a) m (length (now (s .args .codeword)))) whole (s .pre .0 .both), s .pre .1 .1)
 
 same-length : tie.Need-same-length
 same-length c = search needs
@@ -63,12 +66,15 @@ same-length c = search needs
 same-length-2 : tie.Need-same-length-2
 same-length-2 c = search needs
 
+same-length-3 : tie.Need-same-length-3
+same-length-3 c = search needs
+
 returns : tie.Need-returns
 returns c =
-    let e = c .before .before in
-    let d = e .before .before .before .before .before in
-    let s = d .before .before .before .before .before .before .before .before .before .before in
-    apart (s .args .a) _ _ _ (s .pre .0) _ _ (both d) (e .encode-parts .ensures)
+    let e = c .before .before .before .before in
+    let d = e .before .before .before .before .before .before in
+    let s = d .before .before .before .before .before .before .before .before .before .before .before in
+    apart (s .args .a) _ _ _ (s .pre .0) _ _ (both d) (e .encode-within .ensures)
 
 pub encode-joined-spec : {M : Type 1} → statement M
 encode-joined-spec =
@@ -82,9 +88,10 @@ encode-joined-spec =
     part-copy-block-start
     part-copy-block-end
     copy-block-requires-2
-    slice-reshare-prefix-encode-parts
-    slice-aggregate-encode-parts
-    encode-parts-requires
+    slice-reshare-prefix-encode-within
+    slice-aggregate-encode-within
+    encode-within-requires
     same-length
     same-length-2
+    same-length-3
     returns)

@@ -18,12 +18,12 @@ working-requires c κs = search needs
 area : (c : tie.After-working) → c .before .before .before .before .args .a .n * c .working .result ≤ length (now (c .before .before .before .before .args .rows))
 area c =
     let s = c .before .before .before .before in
-    omega (arith, area-is (s .args .a) (s .pre .0) (c .working .result) (c .working .ensures), s .pre .1 .1)
+    omega (arith, area-is (s .args .a) _ _ (s .pre .0) (c .working .result) (c .working .ensures), s .pre .1)
 
 mul-area : tie.Need-mul-area
 mul-area c =
     let s = c .before .before .before .before in
-    omega (arith, area-is (s .args .a) (s .pre .0) (c .working .result) (c .working .ensures), powers-most (s .args .a) (s .pre .0))
+    omega (arith, area-is (s .args .a) _ _ (s .pre .0) (c .working .result) (c .working .ensures), powers-most (s .args .a) _ _ (s .pre .0))
 
 slice-relend-prefix-power-rows : tie.Need-slice-relend-prefix-power-rows
 slice-relend-prefix-power-rows c = area c
@@ -54,12 +54,14 @@ slice-aggregate-add-product : tie.Need-slice-aggregate-add-product
 slice-aggregate-add-product c = sym (length-take-le _ (c .before .before .before .before .before .before .before .in-order .result) (array-share-prefix-order (c .before)))
 
 slice-aggregate-add-product-2 : tie.Need-slice-aggregate-add-product-2
-slice-aggregate-add-product-2 c = sym (ap length (take-length (now (c .before .before .before .before .before .before .before .before .before .before .before .before .before .before .before .before .before .args .parts))))
+slice-aggregate-add-product-2 c =
+    let s = c .before .before .before .before .before .before .before .before .before .before .before .before .before .before .before .before .before in
+    sym (ap length (take-length (now (s .args .parts))))
 
 array-share-prefix-columns : tie.Need-array-share-prefix-columns
 array-share-prefix-columns c =
     let z = c .before .before .before .before .before .before .before .before .before .before .before .before .before in
-    omega (arith, most (z .before .before .before .before .args .a) (z .before .before .before .before .pre .0) (z .working .result) (z .working .ensures))
+    omega (arith, most (z .before .before .before .before .args .a) _ _ (z .before .before .before .before .pre .0) (z .working .result) (z .working .ensures))
 
 slice-aggregate-add-product-3 : tie.Need-slice-aggregate-add-product-3
 slice-aggregate-add-product-3 c = sym (length-take-le _ (c .before .before .before .before .before .before .before .before .in-order2 .result) (array-share-prefix-columns (c .before)))
@@ -97,10 +99,10 @@ returns c =
     let q = z .working .result in
     let last = r .power-rows .last .1 .1 .0 in
     let rest = drop (s .args .a .n * q) (now (s .args .rows)) in
-    encoded (s .args .a) (s .pre .0) q (z .working .ensures) last
-    (r .power-rows .ensures .written (s .pre .0 .shape .n-high) (sym (slice-aggregate-power-rows (r .before))))
-    (now (s .args .parts)) (o .in-order .result) (k .in-order2 .result) _ _ (s .pre .1 .0 .0)
-    (e .clear .ensures ∙ ap (λ (n : ℕ). replicate n 0) (s .pre .1 .0 .1))
+    encoded (s .args .a) _ _ (s .pre .0) q (z .working .ensures) last
+    (r .power-rows .ensures .written (s .pre .0 .n-high) (sym (slice-aggregate-power-rows (r .before))))
+    (now (s .args .parts)) (o .in-order .result) (k .in-order2 .result) _ _ (s .pre .0 .parts-length)
+    (e .clear .ensures ∙ ap (λ (n : ℕ). replicate n 0) (s .pre .0 .codeword-length))
     (o .in-order .ensures) (k .in-order2 .ensures)
     (lent-anew (s .args .a .b) q _ (now (s .args .parts)) last rest _ _ _ _ (powered r) (p .add-product .ensures))
 

@@ -1,10 +1,13 @@
 -- At most 32 parts come of at most 32 nodes. Assumes nothing.
+use Prim.Native.Nat.{_^_, _<_}
 use native.Mathlib.Omega.{arith}
 use borrow.Author.Needs.{needs}
+use denote.Ref.{now}
 use Rattle.params.proofs.Sets.{size-most}
 use Rattle.coefficients.proofs.Laws.{areas-fit}
-use Rattle.access.proofs.decoding.decode_wide.Statement.{statement}
-use Rattle.access.proofs.decoding.decode_wide.Tie as tie
+use Rattle.access.proofs.ReadBack.{parts-few}
+use Rattle.access.proofs.decoding.decode_1024.Statement.{statement}
+use Rattle.access.proofs.decoding.decode_1024.Tie as tie
 
 slice-aggregate-decode-within : tie.Need-slice-aggregate-decode-within
 slice-aggregate-decode-within c = search needs
@@ -12,8 +15,8 @@ slice-aggregate-decode-within c = search needs
 decode-within-requires : tie.Need-decode-within-requires
 decode-within-requires c κs =
     let s = c .before .before .before .before in
-    let few = s .pre .valid .shape in
-    (s .pre, areas-fit _ _ (omega (arith, few .k-le-r, few .r-le-n, few .n-high)) (size-most (s .args .from .0) (omega arith)))
+    let word : s .args .from .0 < 2 ^ 32 = omega arith in
+    (s .pre, areas-fit _ _ (parts-few _ _ _ word (now (s .args .codeword)) (s .pre)) (size-most (s .args .from .0) word))
 
 same-length : tie.Need-same-length
 same-length c = search needs
@@ -21,6 +24,6 @@ same-length c = search needs
 returns : tie.Need-returns
 returns c = search needs
 
-pub decode-wide-spec : {M : Type 1} → statement M
-decode-wide-spec =
+pub decode-1024-spec : {M : Type 1} → statement M
+decode-1024-spec =
     tie.close (tie.spec slice-aggregate-decode-within decode-within-requires same-length returns)
