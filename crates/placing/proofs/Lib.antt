@@ -1,0 +1,4 @@
+pub mod Tests
+pub mod Ranks
+mod Turns
+mod Comparing
