@@ -1,0 +1,4 @@
+mod Values
+mod Targets
+mod PairBlocks
+mod Completing
