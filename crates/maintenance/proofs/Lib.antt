@@ -1,6 +1,2 @@
-mod Values
-mod PairBlocks
-mod Placing
-mod Searching
-mod Served
-mod Rearranged
+mod Rebuilding
+mod Examining

@@ -1,4 +1,5 @@
 pub mod Tests
 pub mod Ranks
+pub mod Outside
 mod Turns
 mod Comparing

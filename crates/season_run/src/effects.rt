@@ -2,9 +2,9 @@
 use access::decode;
 use blocks::copy_block;
 use gates::check_gate;
-use maintenance::reconfigure;
 use maintenance::repair;
 use params::Params;
+use reconfiguration::reconfigure;
 use season_file::DamageFields;
 use season_file::DecodeFields;
 use season_file::Event;

@@ -3,13 +3,13 @@ use mathlib.Core.Path.{subst}
 use Prim.Native.Nat.{ℕ, _-_, _*_, _≤_}
 use native.Mathlib.Omega.{arith}
 use borrow.Author.Needs.{needs}
-use Rattle.gates.proofs.Valid.{working-le, blocks-fit}
-use Rattle.maintenance.proofs.Served.{working-exact}
+use Rattle.gates.proofs.Valid.{blocks-most}
+use Rattle.maintenance.proofs.Examining.{working-exact}
 use Rattle.maintenance.proofs.checking.check_blocks.Statement.{statement}
 use Rattle.maintenance.proofs.checking.check_blocks.Tie as tie
 
-check-large-requires : tie.Need-check-large-requires
-check-large-requires c κs = search needs
+check-over-128-requires : tie.Need-check-over-128-requires
+check-over-128-requires c κs = search needs
 
 returns : tie.Need-returns
 returns c = search needs
@@ -18,24 +18,27 @@ working-requires : tie.Need-working-requires
 working-requires c κs = search needs
 
 sub-if2 : tie.Need-sub-if2
-sub-if2 c =
-    let s = c .before .before .before .before .before in
-    let v = s .pre .valid in
-    omega (arith, working-exact (s .args .a) _ v (c .before .working .ensures), working-le (s .args .a) v)
+sub-if2 c = search needs
 
 mul-if2 : tie.Need-mul-if2
-mul-if2 c = let v = c .before .before .before .before .before .before .pre .valid in blocks-fit v _ (omega arith)
+mul-if2 c =
+    let s = c .before .before .before .before .before .before in
+    omega (arith, blocks-most (s .args .a .n - c .before .before .working .result) (s .args .a .b) (omega (arith, s .pre .n-high)) (s .pre .b-high))
 
-check-least-requires : tie.Need-check-least-requires
-check-least-requires c κs =
-    let s = c .before .before .before .before .before .before .before in
-    (s .pre, subst (λ (q : ℕ). (s .args .a .n - q) * s .args .a .b ≤ 128) (working-exact (s .args .a) _ (s .pre .valid) (c .before .before .before .working .ensures)) (omega (arith, c .if2 .taken)))
+check-over-128-requires-2 : tie.Need-check-over-128-requires-2
+check-over-128-requires-2 c κs = search needs
 
 returns-2 : tie.Need-returns-2
 returns-2 c = search needs
 
-check-large-requires-2 : tie.Need-check-large-requires-2
-check-large-requires-2 c κs = search needs
+slice-aggregate-check-within : tie.Need-slice-aggregate-check-within
+slice-aggregate-check-within c = search needs
+
+check-within-requires : tie.Need-check-within-requires
+check-within-requires c κs =
+    let z = c .before in
+    let s = z .before .before .before .before .before .before .before in
+    (s .pre, subst (λ (q : ℕ). (s .args .a .n - q) * s .args .a .b ≤ 128) (working-exact (s .args .a) _ _ (s .pre) (z .before .before .before .working .ensures)) (omega (arith, z .if2 .left)))
 
 returns-3 : tie.Need-returns-3
 returns-3 c = search needs
@@ -44,12 +47,13 @@ pub check-blocks-spec : {M : Type 1} → statement M
 check-blocks-spec =
     tie.close
     (tie.spec
-    check-large-requires
+    check-over-128-requires
     returns
     working-requires
     sub-if2
     mul-if2
-    check-least-requires
+    check-over-128-requires-2
     returns-2
-    check-large-requires-2
+    slice-aggregate-check-within
+    check-within-requires
     returns-3)

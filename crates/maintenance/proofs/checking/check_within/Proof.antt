@@ -7,11 +7,10 @@ use borrow.Author.Needs.{needs}
 use denote.Ref.{now}
 use lib.ListN.{length}
 use lib.Seq.{length-take-le}
-use Rattle.params.specs.Nodes.{size}
 use Rattle.params.specs.Params.{working}
-use Rattle.maintenance.specs.Cores.{Searched}
 use Rattle.coefficients.proofs.Laws.{buffer-front, buffer-fits, buffer-count}
-use Rattle.maintenance.proofs.Served.{working-exact, others-count, check-asks, served}
+use Rattle.placing.specs.Placed.{ComparePost}
+use Rattle.maintenance.proofs.Examining.{working-exact, others-count, agrees, differs}
 use Rattle.maintenance.proofs.checking.check_within.Statement.{statement}
 use Rattle.maintenance.proofs.checking.check_within.Tie as tie
 
@@ -29,21 +28,20 @@ size-requires c κs = search needs
 
 -- the first nodes, and the part of fresh that is used
 module _ (c : tie.After-size) where
-  exact : c .before .before .before .working .result ≡ working (c .before .before .before .before .before .before .args .a)
-  exact = working-exact _ _ (c .before .before .before .before .before .before .pre .0 .valid) (c .before .before .before .working .ensures)
+  abbrev start : tie.Start
+  start = c .before .before .before .before .before .before
+
+  exact : c .before .before .before .working .result ≡ working (start .args .a)
+  exact = working-exact _ _ _ (start .pre .0) (c .before .before .before .working .ensures)
 
   word : c .before .before .outside .result .0 < 2 ^ 32
   word = omega arith
 
-  fits : c .size .result * c .before .before .before .before .before .before .args .a .b ≤ length (now (c .before .before .before .before .before .before .args .fresh))
+  fits : c .size .result * start .args .a .b ≤ length (now (start .args .fresh))
   fits =
-      let s = c .before .before .before .before .before .before in
-      subst⁻¹ (λ (m : ℕ). m * s .args .a .b ≤ length (now (s .args .fresh)))
-      (others-count (s .args .a) (now (s .args .codeword)) (s .pre .0) _ _ _ word exact (c .before .before .outside .ensures) (c .before .outside2 .ensures) _ (omega arith) (c .size .ensures))
-      (s .pre .1)
-
-  room : c .size .result * c .before .before .before .before .before .before .args .a .b ≡ size (c .before .outside2 .result .0) * c .before .before .before .before .before .before .args .a .b
-  room = ap (λ (m : ℕ). m * c .before .before .before .before .before .before .args .a .b) (c .size .ensures)
+      subst⁻¹ (λ (m : ℕ). m * start .args .a .b ≤ length (now (start .args .fresh)))
+      (others-count (start .args .a) (now (start .args .codeword)) (start .pre .0) _ _ _ word exact (c .before .before .outside .ensures) (c .before .outside2 .ensures) _
+      (omega arith) (c .size .ensures)) (start .pre .1)
 
 mul-used : tie.Need-mul-used
 mul-used c = omega (arith, fits (c .before))
@@ -55,41 +53,44 @@ slice-aggregate-recompute : tie.Need-slice-aggregate-recompute
 slice-aggregate-recompute c = sym (length-take-le _ _ (fits (c .before .before)))
 
 recompute-requires : tie.Need-recompute-requires
-recompute-requires c κs =
-    let z = c .before .before in
-    let s = c .before .before .before .before .before .before .before .before in
-    check-asks (s .args .a) (now (s .args .codeword)) (s .pre .0) _ _ _ (word z) (exact z) (z .before .before .outside .ensures) (z .before .outside2 .ensures) _
-    (sym (slice-aggregate-recompute c) ∙ room z) .0
+recompute-requires c κs = search needs
 
 -- it comes back as long as it was
-back : (c : tie.After-recompute) → length (c .recompute .last .1 .1 .1 .1 .0) ≡ c .before .before .before .size .result * c .before .before .before .before .before .before .before .before .before .args .a .b
+back : (c : tie.After-recompute) → length (c .recompute .last .1 .1 .1 .1 .0) ≡ c .before .before .before .size .result * start (c .before .before .before) .args .a .b
 back c = c .recompute .kept .1 .1 .1 .1 .0 ∙ length-take-le _ _ (fits (c .before .before .before))
 
 slice-reshare-prefix-first-other : tie.Need-slice-reshare-prefix-first-other
-slice-reshare-prefix-first-other c = buffer-fits _ (c .before .before .recompute .last .1 .1 .1 .1 .0) _ (back (c .before .before))
+slice-reshare-prefix-first-other c = let r = c .before .before in buffer-fits _ (r .recompute .last .1 .1 .1 .1 .0) _ (back r)
 
 slice-aggregate-first-other : tie.Need-slice-aggregate-first-other
-slice-aggregate-first-other c = buffer-count _ (c .before .before .before .recompute .last .1 .1 .1 .1 .0) _ (back (c .before .before .before))
+slice-aggregate-first-other c = let r = c .before .before .before in buffer-count _ (r .recompute .last .1 .1 .1 .1 .0) _ (back r)
 
 first-other-requires : tie.Need-first-other-requires
-first-other-requires c κs =
-    let z = c .before .before .before .before .before .before in
-    let s = c .before .before .before .before .before .before .before .before .before .before .before .before in
-    check-asks (s .args .a) (now (s .args .codeword)) (s .pre .0) _ _ _ (word z) (exact z) (z .before .before .outside .ensures) (z .before .outside2 .ensures) _
-    (sym (slice-aggregate-first-other c) ∙ room z) .1
+first-other-requires c κs = search needs
 
 same-length : tie.Need-same-length
 same-length c = search needs
 
 returns : tie.Need-returns
 returns c =
-    let z = c .before .before .before .before .before .before .before in
-    let s = c .before .before .before .before .before .before .before .before .before .before .before .before .before in
-    let r = c .before .before .before .before in
-    served (s .args .a) (now (s .args .codeword)) (s .pre .0) _ _ _ (word z) (exact z) (z .before .before .outside .ensures) (z .before .outside2 .ensures) _ (c .first-other .result)
-    (λ i. omega (arith, c .before .before .before .before .before .before .before .before .before .before .before .before .shared-slice-known .given i)) (r .recompute .ensures)
-    (subst (λ (l : List ℕ). Searched (s .args .a .b) (z .before .outside2 .result .0) (now (s .args .codeword)) l (c .first-other .result))
-    (buffer-front _ _ _ (back r)) (c .first-other .ensures))
+    let r = c .before .before .before .before .before .before in
+    let z = r .before .before .before in
+    let s = start z in
+    agrees (s .args .a) (now (s .args .codeword)) (s .pre .0) _ _ _ (word z) (exact z) (z .before .before .outside .ensures) (z .before .outside2 .ensures) _ _
+    (length-take-le _ _ (fits z) ∙ ap (λ (m : ℕ). m * s .args .a .b) (z .size .ensures)) (r .recompute .ensures)
+    (subst (λ (l : List ℕ). ComparePost (s .args .a .b) (z .before .outside2 .result .0) (now (s .args .codeword)) l 0) (buffer-front _ _ _ (back r)) (subst (ComparePost (s .args .a .b) (z .before .outside2 .result .0) (now (s .args .codeword)) _) (c .if1 .taken) (c .before .before .first-other .ensures)))
+
+same-length-2 : tie.Need-same-length-2
+same-length-2 c = search needs
+
+returns-2 : tie.Need-returns-2
+returns-2 c =
+    let r = c .before .before .before .before .before .before in
+    let z = r .before .before .before in
+    let s = start z in
+    differs (s .args .a) (now (s .args .codeword)) (s .pre .0) _ _ _ (word z) (exact z) (z .before .before .outside .ensures) (z .before .outside2 .ensures) _ _
+    (length-take-le _ _ (fits z) ∙ ap (λ (m : ℕ). m * s .args .a .b) (z .size .ensures)) (r .recompute .ensures) _ (c .if1 .left)
+    (subst (λ (l : List ℕ). ComparePost (s .args .a .b) (z .before .outside2 .result .0) (now (s .args .codeword)) l (c .before .before .first-other .result .0)) (buffer-front _ _ _ (back r)) (c .before .before .first-other .ensures))
 
 pub check-within-spec : {M : Type 1} → statement M
 check-within-spec =
@@ -107,4 +108,6 @@ check-within-spec =
     slice-aggregate-first-other
     first-other-requires
     same-length
-    returns)
+    returns
+    same-length-2
+    returns-2)

@@ -1,0 +1,51 @@
+-- Refused, nothing is written; else the record is rewritten. Assumes nothing.
+use mathlib.Core.Path.{refl, sym, _∙_}
+use Prim.Native.Nat.{_^_, _<_}
+use native.Mathlib.Omega.{arith}
+use borrow.Author.Needs.{needs}
+use denote.Ref.{now}
+use lib.ListN.{length}
+use Rattle.gates.specs.Valid.{ReconfigureAccepted}
+use Rattle.gates.proofs.Valid.{reconfigure-accepted}
+use Rattle.code.proofs.Posts.{served, refused}
+use Rattle.reconfiguration.proofs.Rewriting.{reconfigurable, reconfigured}
+use Rattle.reconfiguration.proofs.reconfigure.Statement.{statement}
+use Rattle.reconfiguration.proofs.reconfigure.Tie as tie
+
+reconfigure-gate-requires : tie.Need-reconfigure-gate-requires
+reconfigure-gate-requires c κs = search needs
+
+returns : tie.Need-returns
+returns c = refused _ _ (c .before .reconfigure-gate .ensures) (c .if1 .taken) refl
+
+word-from : (c : tie.Start) → c .args .from .0 < 2 ^ 32
+word-from c = omega arith
+
+abbrev start : tie.Else1 → tie.Start
+start c = c .before .before .before .before .before
+
+accepted : (c : tie.Else1)
+    → ReconfigureAccepted (start c .args .a) (start c .args .shape) (length (now (start c .args .codeword))) (length (now (start c .args .out))) (length (now (start c .args .message)))
+    (start c .args .from .0) (start c .args .to .0)
+accepted c = reconfigure-accepted _ _ _ _ _ _ _ .0 (sym (c .before .reconfigure-gate .ensures) ∙ c .if1 .left)
+
+reconfigure-blocks-requires : tie.Need-reconfigure-blocks-requires
+reconfigure-blocks-requires c κs = reconfigurable _ _ _ _ (word-from (start (c .before))) _ _ _ (accepted (c .before))
+
+same-length : tie.Need-same-length
+same-length c = search needs
+
+returns-2 : tie.Need-returns-2
+returns-2 c =
+    let e = c .before .before .before .before in
+    let s = start e .args in
+    let bytes = e .before .before .before .before .shared-slice-known .given in
+    let bytes′ = e .before .before .before .shared-slice-known2 .given in
+    served _ (sym (e .before .reconfigure-gate .ensures) ∙ e .if1 .left)
+    (reconfigured (s .a) (s .shape) (s .from .0) (s .to .0) (word-from (start e)) (now (s .codeword)) (now (s .message)) (now (s .out)) _ (accepted e) (λ i. omega (arith, bytes i)) (λ i. omega (arith, bytes′ i))
+    (c .before .before .reconfigure-blocks .ensures))
+
+pub reconfigure-spec : {M : Type 1} → statement M
+reconfigure-spec =
+    tie.close
+    (tie.spec reconfigure-gate-requires returns reconfigure-blocks-requires same-length returns-2)

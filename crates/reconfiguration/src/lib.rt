@@ -1,0 +1,123 @@
+// Document 01's rearrangement: from one shape to another, through the blocks of a set R and with the blocks of a set W' made new. It is its gate, and then a
+// private core, which knows of no gate.
+//
+// Outside W' the new pair has the old pair's blocks. These and the new message settle it, and so every block that is written. The others are copied.
+use blocks::copy_block;
+use extension::complete;
+use extension::recompute;
+use gates::reconfigure_gate;
+use params::NodeSet;
+use params::Params;
+use params::Shape;
+ghost use Prim.Native.Nat.{_*_, _≤_};
+ghost use lib.ListN.{length};
+ghost use Rattle.params.specs.Params.{slackParts, reshaped};
+ghost use Rattle.code.specs.Calls.{ReconfigurePost};
+ghost use Rattle.reconfiguration.specs.Core.{Reconfigurable, Rewritten};
+
+// Writes the record of the new shape to out. The old record is only read.
+pub fn reconfigure(
+    a: Params,
+    shape: Shape,
+    codeword: &[u8],
+    from: NodeSet,
+    to: NodeSet,
+    message: &[u8],
+    out: &mut [u8],
+) -> u32
+    ensures { λ r. ⌜ ReconfigurePost a shape (now (codeword .entry)) (from .0) (to .0) (now (message .entry)) (now (out .entry)) r (now (out .exit)) ⌝ }
+{
+    let refusal = reconfigure_gate(a, shape, codeword.len(), out.len(), message.len(), from, to);
+    if refusal != 0 {
+        return refusal;
+    }
+    reconfigure_blocks(a, shape, codeword, from, to, message, out);
+    0
+}
+
+// Makes room for the old pair's blocks outside W', no more than is wanted, since room is cleared at each call: 128, 1,024 or 32,768 bytes. The function for the
+// larger rooms is called at two places, and the first test is there for that alone: the compiler then keeps it apart, and a small call takes no stack for them.
+fn reconfigure_blocks(
+    a: Params,
+    shape: Shape,
+    codeword: &[u8],
+    from: NodeSet,
+    to: NodeSet,
+    message: &[u8],
+    out: &mut [u8],
+)
+    requires { ⌜ Reconfigurable a shape (length (now codeword)) (length (now out)) (length (now message)) (from .0) (to .0) ⌝ }
+    ensures { λ _. ⌜ Rewritten a shape (now (codeword .entry)) (from .0) (to .0) (now (message .entry)) (now (out .exit)) ⌝ }
+{
+    if 512 < a.b {
+        reconfigure_over_128(a, shape, codeword, from, to, message, out);
+        return;
+    }
+    if 128 < to.outside(shape.n).size() * a.b {
+        reconfigure_over_128(a, shape, codeword, from, to, message, out);
+        return;
+    }
+    let mut z = [0u8; 128];
+    reconfigure_within(a, shape, codeword, from, to, message, &mut z, out);
+}
+
+fn reconfigure_over_128(
+    a: Params,
+    shape: Shape,
+    codeword: &[u8],
+    from: NodeSet,
+    to: NodeSet,
+    message: &[u8],
+    out: &mut [u8],
+)
+    requires { ⌜ Reconfigurable a shape (length (now codeword)) (length (now out)) (length (now message)) (from .0) (to .0) ⌝ }
+    ensures { λ _. ⌜ Rewritten a shape (now (codeword .entry)) (from .0) (to .0) (now (message .entry)) (now (out .exit)) ⌝ }
+{
+    if to.outside(shape.n).size() * a.b <= 1024 {
+        reconfigure_1024(a, shape, codeword, from, to, message, out);
+        return;
+    }
+    let mut z = [0u8; 32768];
+    reconfigure_within(a, shape, codeword, from, to, message, &mut z, out);
+}
+
+fn reconfigure_1024(
+    a: Params,
+    shape: Shape,
+    codeword: &[u8],
+    from: NodeSet,
+    to: NodeSet,
+    message: &[u8],
+    out: &mut [u8],
+)
+    requires { ⌜ Reconfigurable a shape (length (now codeword)) (length (now out)) (length (now message)) (from .0) (to .0) ⌝ }
+    requires { ⌜ slackParts (reshaped a shape) * a .b ≤ 1024 ⌝ }
+    ensures { λ _. ⌜ Rewritten a shape (now (codeword .entry)) (from .0) (to .0) (now (message .entry)) (now (out .exit)) ⌝ }
+{
+    let mut z = [0u8; 1024];
+    reconfigure_within(a, shape, codeword, from, to, message, &mut z, out);
+}
+
+// z: the old pair's blocks at the nodes outside W'. The new pair's blocks in W' and above n then go over a copy of the old record.
+fn reconfigure_within(
+    a: Params,
+    shape: Shape,
+    codeword: &[u8],
+    from: NodeSet,
+    to: NodeSet,
+    message: &[u8],
+    z: &mut [u8],
+    out: &mut [u8],
+)
+    requires { ⌜ Reconfigurable a shape (length (now codeword)) (length (now out)) (length (now message)) (from .0) (to .0) ⌝ }
+    requires { ⌜ slackParts (reshaped a shape) * a .b ≤ length (now z) ⌝ }
+    ensures { λ _. ⌜ Rewritten a shape (now (codeword .entry)) (from .0) (to .0) (now (message .entry)) (now (out .exit)) ⌝ }
+{
+    let free = to.outside(shape.n);
+    let kept = to.outside(a.n);
+    let made = kept.outside(shape.n);
+    let old = free.size() * a.b;
+    recompute(a, codeword, from, free, &mut z[..old]);
+    copy_block(out, codeword);
+    complete(a.b, shape.k, free, made, message, &z[..old], out);
+}
