@@ -7,7 +7,7 @@ use Prim.Native.Nat.{ℕ, _≤_, _<_}
 use native.Mathlib.Omega.{arith}
 use lib.ListN.{length, length-append}
 use Rattle.field.specs.Field.{Bytes}
-use Rattle.season_file.specs.Lines.{Wrote}
+use Rattle.season_lines.specs.Lines.{Wrote}
 use Rattle.season_run.specs.Season.{Goes, placeOf, outcomeOf, Room, BeginPost, TurnPost}
 use Rattle.season_run.specs.Program.{Calls}
 use Rattle.season_run.specs.declared.State.{State}

@@ -3,7 +3,3 @@ mod Gated
 mod Items
 mod Openings
 mod ByKind
-mod Placing
-mod Backwards
-pub mod Decimal
-pub mod Hexadecimal

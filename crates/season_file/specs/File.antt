@@ -1,6 +1,6 @@
 -- The bytes of a season file (document 01, "The season program"). A byte that the input does not have counts as 00 here; the definitions ask for the
 -- length before they use it. Assumes nothing.
-use mathlib.Core.Bool.{Bool, true, false, _||_}
+use mathlib.Core.Bool.{Bool, cond, _||_}
 use mathlib.Core.List.{List}
 use Prim.Native.Nat.{ℕ, _+_, _*_}
 use lib.Dec.{ltb, eqb}
@@ -14,11 +14,6 @@ use Rattle.season_file.specs.declared.Item.{Item}
 use Rattle.season_file.specs.declared.Item.the-variants as item
 use Rattle.season_file.specs.declared.Opening.{Opening}
 use Rattle.season_file.specs.declared.Opening.the-variants as opening
-
--- the first where the answer is yes, the second where it is no
-abbrev pub choose : {A : Type 0} → Bool → A → A → A
-choose true x y = x
-choose false x y = y
 
 -- "Numbers have two bytes, choices four, highest byte first."
 unfoldable pub numberAt : List ℕ → ℕ → ℕ
@@ -61,9 +56,9 @@ eventsCountAt input = slackCountAt input + 2 + numberAt input (slackCountAt inpu
 -- tested before anything after it is read." "20 first count is not 5; 21 bytes end early".
 unfoldable pub openingOf : List ℕ → Opening
 openingOf input =
-    choose (ltb (length input) 2) (opening.Faulty 21)
-    (choose (eqb (numberAt input 0) 5)
-    (choose (ltb (length input) (eventsCountAt input + 2)) (opening.Faulty 21)
+    cond (ltb (length input) 2) (opening.Faulty 21)
+    (cond (eqb (numberAt input 0) 5)
+    (cond (ltb (length input) (eventsCountAt input + 2)) (opening.Faulty 21)
     (opening.Whole
     (record {
       params = paramsOf input;
@@ -79,7 +74,7 @@ openingOf input =
 -- "An event has a kind 1 to 5, each with its own fields: 1 change; 2 rebuild; 3 damage; 4 reading; 5 rearrangement": what each kind has.
 abbrev pub byKind : {A : Type 0} → ℕ → A → A → A → A → A → A
 byKind kind change rebuild damage reading rearrangement =
-    choose (eqb kind 1) change (choose (eqb kind 2) rebuild (choose (eqb kind 3) damage (choose (eqb kind 4) reading rearrangement)))
+    cond (eqb kind 1) change (cond (eqb kind 2) rebuild (cond (eqb kind 3) damage (cond (eqb kind 4) reading rearrangement)))
 
 -- "1 change: W, k·B bytes; 2 rebuild: R, L; 3 damage: trap in one byte, B bytes; 4 reading: R; 5 rearrangement: R, k', r', w', n', W', k'·B bytes."
 -- How many bytes the fields before the block bytes have, ..
@@ -134,12 +129,12 @@ faultOf kind number = item.Faulty (record { kind = kind; number = number })
 -- "All of an event's fields are read before it is tried." "21 bytes end early": what stands behind a known kind, whose fields begin at `at`
 unfoldable pub fieldsAt : Params → List ℕ → ℕ → ℕ → Item
 fieldsAt a input at kind =
-    choose (ltb (length input) (endOf a input at kind)) (faultOf kind 21)
+    cond (ltb (length input) (endOf a input at kind)) (faultOf kind 21)
     (item.Whole (record { event = eventAt a input at kind; next = endOf a input at kind }))
 
 -- "22 kind unknown", with "its kind (0 if unread)".
 unfoldable pub itemAt : Params → List ℕ → ℕ → Item
 unfolding fieldsAt
 itemAt a input at =
-    choose (ltb at (length input))
-    (choose (unknown (getD input at 0)) (faultOf (getD input at 0) 22) (fieldsAt a input (at + 1) (getD input at 0))) (faultOf 0 21)
+    cond (ltb at (length input))
+    (cond (unknown (getD input at 0)) (faultOf (getD input at 0) 22) (fieldsAt a input (at + 1) (getD input at 0))) (faultOf 0 21)

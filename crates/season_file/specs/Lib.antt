@@ -1,5 +1,3 @@
 pub mod File
-pub mod Lines
 pub mod Answers
 pub mod Parsing
-pub mod Writing

@@ -1,7 +1,6 @@
 // The season file of document 01 ("The season program"): what its bytes say, the answer to each event, and the line that an event prints. No field
 // arithmetic. Blocks stay in the lent input: an event tells where they begin and how many bytes they have.
 pub mod answering;
-pub mod lines;
 pub mod parsing;
 
 use params::Node;

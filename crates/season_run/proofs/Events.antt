@@ -1,7 +1,7 @@
 -- What the file's definitions say of an event that was found: its blocks stand within the input, its bytes are bytes and its sets have 32 bits, and its answer is
 -- the number of the list's event. By cases on its kind. Assumes nothing.
 use mathlib.Core.Path.{_≡_, refl, _∙_, subst}
-use mathlib.Core.Bool.{Bool, true, false}
+use mathlib.Core.Bool.{Bool, true, false, cond as choose}
 use mathlib.Core.List.{List}
 use Prim.Native.Nat.{ℕ, _+_, _*_, _^_, _≤_, _<_}
 use native.Mathlib.Omega.{arith}
@@ -14,7 +14,7 @@ use Rattle.field.specs.Field.{Bytes}
 use Rattle.interpolation.proofs.Rows.{bytes-tabulate, bytes-take, bytes-drop}
 use Rattle.params.specs.declared.Params.{Params}
 use Rattle.ledger.specs.Ledger.{Held, Typed, gate}
-use Rattle.season_file.specs.File.{choose, numberAt, choiceAt, bytesOf, eventsCountAt, openingOf, eventAt, endOf, unknown, itemAt}
+use Rattle.season_file.specs.File.{numberAt, choiceAt, bytesOf, eventsCountAt, openingOf, eventAt, endOf, unknown, itemAt}
 use Rattle.season_file.specs.Answers.{answerOf}
 use Rattle.season_file.specs.declared.Span.{Span}
 use Rattle.season_file.specs.declared.Event.{Event}

@@ -13,12 +13,12 @@ use Rattle.gates.specs.Valid.{Valid}
 use Rattle.interpolation.proofs.Rows.{bytes-take}
 use Rattle.ledger.specs.Ledger.{Held}
 use Rattle.ledger.proofs.Whole.{Whole}
-use Rattle.season_file.specs.Lines.{lineOf, Wrote}
+use Rattle.season_lines.specs.Lines.{lineOf, Wrote}
 use Rattle.season_file.specs.Answers.{answerOf}
 use Rattle.season_file.specs.declared.Event.{Event}
 use Rattle.season_file.specs.declared.Event.the-variants.{Update, Repair, Damage, Decode, Reconfigure}
-use Rattle.season_file.proofs.Decimal.{decimal-short}
-use Rattle.season_file.proofs.Hexadecimal.{message-short}
+use Rattle.season_lines.proofs.Decimal.{decimal-short}
+use Rattle.season_lines.proofs.Hexadecimal.{message-short}
 use Rattle.season_run.specs.Season.{Prints, Place, Outcome, ended, on, Goes, over, leftover, faulty, tried, Opens, refused, opened, Runs, done, turn, Season, season, FileOutput, heldIn, placeOf, outcomeOf, Room, Turned, Standing}
 use Rattle.season_run.specs.Program.{Calls, began, turned, Ran}
 use Rattle.season_run.specs.declared.State.{State}

@@ -7,7 +7,7 @@ use lib.ListN.{length, drop}
 use Rattle.gates.specs.Valid.{Valid}
 use Rattle.params.specs.declared.Params.{Params}
 use Rattle.ledger.specs.Ledger.{Step}
-use Rattle.season_file.specs.Lines.{lineOf, Wrote}
+use Rattle.season_lines.specs.Lines.{lineOf, Wrote}
 use Rattle.season_file.specs.declared.Event.{Event}
 use Rattle.season_file.specs.declared.Event.the-variants.{Update, Repair, Damage, Decode, Reconfigure}
 use Rattle.season_run.specs.Season.{listed, Prints, heldIn}

@@ -5,7 +5,7 @@ mod effects;
 pub mod turning;
 
 use params::Params;
-use season_file::lines::write_line;
+use season_lines::write_line;
 ghost use mathlib.Core.Path.{_≡_};
 ghost use Prim.Native.Nat.{_≤_};
 ghost use lib.ListN.{length};
