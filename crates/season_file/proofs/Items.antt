@@ -9,13 +9,13 @@ use borrow.Author.Tests.{lt-ltb, le-ltb}
 use Rattle.params.specs.declared.Params.{Params}
 use Rattle.params.specs.declared.NodeSet.{NodeSet}
 use Rattle.season_file.specs.File.{choiceAt, set, fixed, following, eventAt, endOf, unknown, faultOf, fieldsAt, itemAt}
-use Rattle.season_file.specs.Parsing.{held}
+use Rattle.season_file.specs.Lengths.{capped}
 use Rattle.season_file.specs.declared.Event.{Event}
 use Rattle.season_file.specs.declared.Event.the-variants.{Update, Repair, Damage, Decode, Reconfigure}
 use Rattle.season_file.specs.declared.ReconfigureFields.{ReconfigureFields}
 use Rattle.season_file.specs.declared.Item.the-variants as item
 use Rattle.season_file.proofs.ByKind.{Last, last-kind}
-use Rattle.season_file.proofs.Held.{held-over}
+use Rattle.season_file.proofs.Capped.{capped-over}
 
 pub set-is : (s : NodeSet) (input : List ℕ) (at : ℕ) → s .0 ≡ choiceAt input at → s ≡ set input at
 set-is s input at h = ap (λ (x : ℕ). wrap x) h
@@ -57,10 +57,10 @@ module _ (a : Params) (input : List ℕ) (at kind : ℕ) where
   unfolding fieldsAt
   early i h = simp (lt-ltb (length input) (endOf a input at kind) (omega arith))
 
-  pub late : at + fixed kind ≤ length input → length input - (at + fixed kind) < held (following a input at kind)
+  pub late : at + fixed kind ≤ length input → length input - (at + fixed kind) < capped (following a input at kind)
       → faultOf kind 21 ≡ fieldsAt a input at kind
   unfolding fieldsAt
-  late i h = simp (lt-ltb (length input) (endOf a input at kind) (omega (arith, held-over (following a input at kind) _ h)))
+  late i h = simp (lt-ltb (length input) (endOf a input at kind) (omega (arith, capped-over (following a input at kind) _ h)))
 
   pub whole : (e : Event) (next : ℕ) → e ≡ eventAt a input at kind → next ≡ endOf a input at kind → next ≤ length input
       → item.Whole (record { event = e; next = next }) ≡ fieldsAt a input at kind

@@ -1,5 +1,4 @@
-mod Held
-mod Gated
+pub mod Capped
 mod Items
 mod Openings
 mod ByKind

@@ -1,3 +1,2 @@
 pub mod File
-pub mod Answers
-pub mod Parsing
+pub mod Lengths

@@ -1,6 +1,5 @@
-// The season file of document 01 ("The season program"): what its bytes say, the answer to each event, and the line that an event prints. No field
-// arithmetic. Blocks stay in the lent input: an event tells where they begin and how many bytes they have.
-pub mod answering;
+// The season file of document 01 ("The season program"): what its bytes say. Blocks stay in the lent input: an event tells where they begin
+// and how many bytes they have.
 pub mod parsing;
 
 use params::Node;
@@ -9,7 +8,7 @@ use params::Params;
 use params::Shape;
 ghost use mathlib.Core.Path.{_≡_};
 ghost use Prim.Native.Nat.{_*_};
-ghost use Rattle.season_file.specs.Parsing.{held};
+ghost use Rattle.season_file.specs.Lengths.{capped};
 
 // A stretch of the input.
 pub struct Span {
@@ -90,9 +89,9 @@ pub enum Opening {
     Whole(Header),
 }
 
-// The bytes of count blocks of a size, held at the largest usize.
-fn area(count: usize, size: usize) -> usize
-    ensures { λ r. ⌜ r ≡ held (count * size) ⌝ }
+// How many bytes count blocks of a size have; the largest usize where they have more.
+pub fn area(count: usize, size: usize) -> usize
+    ensures { λ r. ⌜ r ≡ capped (count * size) ⌝ }
 {
     if size == 0 {
         return 0;

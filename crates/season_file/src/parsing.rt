@@ -21,7 +21,7 @@ ghost use mathlib.Core.Path.{_≡_};
 ghost use Prim.Native.Nat.{_+_, _≤_, _<_};
 ghost use lib.ListN.{length};
 ghost use Rattle.season_file.specs.File.{numberAt, choiceAt, paramsOf, openingOf, fixed, following, eventAt, kindOf, unknown, faultOf, fieldsAt, itemAt};
-ghost use Rattle.season_file.specs.Parsing.{held};
+ghost use Rattle.season_file.specs.Lengths.{capped};
 ghost use Rattle.season_file.specs.declared.Event.the-variants.{Reconfigure};
 ghost use Rattle.params.specs.declared.Params.{Params};
 
@@ -159,10 +159,10 @@ fn fixed(kind: u8) -> usize
     }
 }
 
-// How many block bytes follow them, held at the largest usize: by the arrangement in force, for a rearrangement by the new k.
+// How many block bytes follow them, capped at the largest usize: by the arrangement in force, for a rearrangement by the new k.
 fn following(a: Params, input: &[u8], at: usize, kind: u8) -> usize
     requires { ⌜ at + fixed kind ≤ length (now input) ⌝ }
-    ensures { λ r. ⌜ r ≡ held (following a (now (input .entry)) at kind) ⌝ }
+    ensures { λ r. ⌜ r ≡ capped (following a (now (input .entry)) at kind) ⌝ }
 {
     match kind {
         1 => area(a.k, a.b),

@@ -28,7 +28,7 @@ use Rattle.ledger.specs.Ledger as ledger
 use Rattle.ledger.specs.Ledger.{Held, gate, Step, chosen, damagedWord, damagedHeld, updated, repaired, decoded, reconfigured, damaged}
 use Rattle.ledger.proofs.Invariant.{moved-same, damaged-same}
 use Rattle.season_file.specs.File.{bytesOf}
-use Rattle.season_file.specs.Answers.{answerOf}
+use Rattle.season_answers.specs.Answers.{answerOf}
 use Rattle.season_file.specs.declared.Event.{Event}
 use Rattle.season_file.specs.declared.Event.the-variants.{Update, Repair, Damage, Decode, Reconfigure}
 use Rattle.season_file.specs.declared.UpdateFields.{UpdateFields}

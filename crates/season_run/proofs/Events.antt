@@ -15,7 +15,7 @@ use Rattle.interpolation.proofs.Rows.{bytes-tabulate, bytes-take, bytes-drop}
 use Rattle.params.specs.declared.Params.{Params}
 use Rattle.ledger.specs.Ledger.{Held, Typed, gate}
 use Rattle.season_file.specs.File.{numberAt, choiceAt, bytesOf, eventsCountAt, openingOf, eventAt, endOf, unknown, itemAt}
-use Rattle.season_file.specs.Answers.{answerOf}
+use Rattle.season_answers.specs.Answers.{answerOf}
 use Rattle.season_file.specs.declared.Span.{Span}
 use Rattle.season_file.specs.declared.Event.{Event}
 use Rattle.season_file.specs.declared.Event.the-variants.{Update, Repair, Damage, Decode, Reconfigure}

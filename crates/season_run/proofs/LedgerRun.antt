@@ -13,7 +13,7 @@ use Rattle.ledger.proofs.Whole.{Whole, history-whole}
 use Rattle.ledger.proofs.Demand3.{reading-is-ledger}
 use Rattle.season_file.specs.File.{itemAt}
 use Rattle.season_lines.specs.Lines.{lineOf}
-use Rattle.season_file.specs.Answers.{answerOf}
+use Rattle.season_answers.specs.Answers.{answerOf}
 use Rattle.season_file.specs.declared.Event.{Event}
 use Rattle.season_file.specs.declared.Event.the-variants.{Update, Repair, Damage, Decode, Reconfigure}
 use Rattle.season_file.specs.declared.DecodeFields.{DecodeFields}

@@ -23,7 +23,7 @@ use Rattle.ledger.specs.Ledger as ledger
 use Rattle.ledger.proofs.Whole.{Whole, step-whole, history-whole, step-exists, step-unique}
 use Rattle.season_file.specs.File.{bytesOf, openingOf, itemAt, kindOf}
 use Rattle.season_lines.specs.Lines.{lineOf}
-use Rattle.season_file.specs.Answers.{answerOf}
+use Rattle.season_answers.specs.Answers.{answerOf}
 use Rattle.season_file.specs.declared.Event.{Event}
 use Rattle.season_file.specs.declared.Event.the-variants.{Update, Repair, Damage, Decode, Reconfigure}
 use Rattle.season_file.specs.declared.Header.{Header}

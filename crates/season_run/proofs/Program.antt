@@ -14,7 +14,7 @@ use Rattle.interpolation.proofs.Rows.{bytes-take}
 use Rattle.ledger.specs.Ledger.{Held}
 use Rattle.ledger.proofs.Whole.{Whole}
 use Rattle.season_lines.specs.Lines.{lineOf, Wrote}
-use Rattle.season_file.specs.Answers.{answerOf}
+use Rattle.season_answers.specs.Answers.{answerOf}
 use Rattle.season_file.specs.declared.Event.{Event}
 use Rattle.season_file.specs.declared.Event.the-variants.{Update, Repair, Damage, Decode, Reconfigure}
 use Rattle.season_lines.proofs.Decimal.{decimal-short}

@@ -20,7 +20,7 @@ use Rattle.ledger.specs.Ledger.{Held, damagedWord, updated, damaged, decoded}
 use Rattle.ledger.proofs.Computed.{encode-by, decode-by, update-by}
 use Rattle.season_file.specs.File.{numberAt, choiceAt, openingOf, itemAt}
 use Rattle.season_lines.specs.Lines.{digitsBefore, decimal, hexDigit, hex, messageField, lineOf}
-use Rattle.season_file.specs.Answers.{answerOf}
+use Rattle.season_answers.specs.Answers.{answerOf}
 use Rattle.season_file.specs.declared.Found.{Found}
 use Rattle.season_file.specs.declared.Event.the-variants.{Update, Damage, Decode}
 use Rattle.season_run.specs.Season.{Season, season, opened, turn, tried, over, done}

@@ -17,7 +17,7 @@ use Rattle.gates.proofs.Valid.{valid-of, encode-accepted}
 use Rattle.code.specs.Calls.{EncodePost}
 use Rattle.season_file.specs.File.{bytesOf, openingOf, itemAt, kindOf}
 use Rattle.season_lines.specs.Lines.{lineOf, Wrote, LinePost}
-use Rattle.season_file.specs.Answers.{answerOf}
+use Rattle.season_answers.specs.Answers.{answerOf}
 use Rattle.season_file.specs.declared.Found.{Found}
 use Rattle.season_file.specs.declared.Header.{Header}
 use Rattle.season_file.specs.declared.Item.the-variants as item

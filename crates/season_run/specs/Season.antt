@@ -12,7 +12,7 @@ use Rattle.ledger.specs.Ledger.{Held, Step, held, update, repair, damage, decod
 use Rattle.ledger.specs.Ledger as ledger
 use Rattle.season_file.specs.File.{bytesOf, openingOf, itemAt, kindOf}
 use Rattle.season_lines.specs.Lines.{lineOf, Wrote}
-use Rattle.season_file.specs.Answers.{answerOf}
+use Rattle.season_answers.specs.Answers.{answerOf}
 use Rattle.season_file.specs.declared.Event.{Event}
 use Rattle.season_file.specs.declared.Event.the-variants.{Update, Repair, Damage, Decode, Reconfigure}
 use Rattle.season_file.specs.declared.Header.{Header}

@@ -17,7 +17,7 @@ ghost use mathlib.Core.List.{List, []};
 ghost use Prim.Native.Nat.{ℕ, _≤_};
 ghost use lib.ListN.{length, take};
 ghost use Rattle.gates.specs.Valid.{Valid};
-ghost use Rattle.season_file.specs.Answers.{answerOf};
+ghost use Rattle.season_answers.specs.Answers.{answerOf};
 ghost use Rattle.season_file.specs.declared.Event.the-variants.{Update, Repair, Damage, Decode, Reconfigure};
 ghost use Rattle.season_run.specs.Turning.{RecordLength, Ready, Effected};
 

@@ -6,7 +6,7 @@ use denote.Ref.{now}
 use lib.ListN.{length}
 use Rattle.season_file.specs.File.{fixed, following}
 use Rattle.season_file.proofs.Items.{early, late, whole}
-use Rattle.season_file.proofs.Held.{held-within}
+use Rattle.season_file.proofs.Capped.{capped-within}
 use borrow.Author.Needs.{needs}
 use Rattle.season_file.proofs.parsing.fields_at.Statement.{statement}
 use Rattle.season_file.proofs.parsing.fields_at.Tie as tie
@@ -55,7 +55,7 @@ returns-3 c = let s = c .before .before .before .before .before .before in
     let a = s .args in
     let count : c .before .before .following .result ≡ following (a .a) (now (a .input)) (a .at) (a .kind)
     = c .before .before .following .ensures
-    ∙ held-within (following (a .a) (now (a .input)) (a .at) (a .kind)) (length (now (a .input)) - (a .at + c .before .before .before .before .fixed .result))
+    ∙ capped-within (following (a .a) (now (a .input)) (a .at) (a .kind)) (length (now (a .input)) - (a .at + c .before .before .before .before .fixed .result))
     (omega (arith, s .pre)) (omega (arith, c .before .if2 .left, c .before .before .following .ensures)) in
     whole (a .a) (now (a .input)) (a .at) (a .kind) _ _ (c .event-at .ensures (a .a) count)
     (omega (arith, count, c .before .before .before .before .fixed .ensures))

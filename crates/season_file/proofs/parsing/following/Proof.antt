@@ -4,9 +4,9 @@ use Prim.Native.Nat.{ℕ, _+_, _*_}
 use native.Mathlib.Omega.{arith}
 use denote.Ref.{now}
 use Rattle.season_file.specs.File.{numberAt, following}
-use Rattle.season_file.specs.Parsing.{held}
+use Rattle.season_file.specs.Lengths.{capped}
 use Rattle.season_file.proofs.ByKind.{last-kind}
-use Rattle.season_file.proofs.Held.{held-is}
+use Rattle.season_file.proofs.Capped.{capped-is}
 use borrow.Author.Needs.{needs}
 use Rattle.season_file.proofs.parsing.following.Statement.{statement}
 use Rattle.season_file.proofs.parsing.following.Tie as tie
@@ -25,25 +25,25 @@ area-requires-2 c κs = search needs
 
 returns : tie.Need-returns
 returns c = c .area .ensures ∙ (let s = c .before .before .before in
-    sym (ap (λ (kind : ℕ). held (following (s .args .a) (now (s .args .input)) (s .args .at) kind)) (c .before .match .keys1)))
+    sym (ap (λ (kind : ℕ). capped (following (s .args .a) (now (s .args .input)) (s .args .at) kind)) (c .before .match .keys1)))
 
 returns-2 : tie.Need-returns-2
-returns-2 c = held-is 0 (omega arith) ∙ (let s = c .before .before in
-    sym (ap (λ (kind : ℕ). held (following (s .args .a) (now (s .args .input)) (s .args .at) kind)) (c .match .keys2)))
+returns-2 c = capped-is 0 (omega arith) ∙ (let s = c .before .before in
+    sym (ap (λ (kind : ℕ). capped (following (s .args .a) (now (s .args .input)) (s .args .at) kind)) (c .match .keys2)))
 
 returns-3 : tie.Need-returns-3
-returns-3 c = held-is _ (search needs) ∙ (let s = c .before .before in
-    sym (ap (λ (kind : ℕ). held (following (s .args .a) (now (s .args .input)) (s .args .at) kind)) (c .match .keys3)))
+returns-3 c = capped-is _ (search needs) ∙ (let s = c .before .before in
+    sym (ap (λ (kind : ℕ). capped (following (s .args .a) (now (s .args .input)) (s .args .at) kind)) (c .match .keys3)))
 
 returns-4 : tie.Need-returns-4
-returns-4 c = held-is 0 (omega arith) ∙ (let s = c .before .before in
-    sym (ap (λ (kind : ℕ). held (following (s .args .a) (now (s .args .input)) (s .args .at) kind)) (c .match .keys4)))
+returns-4 c = capped-is 0 (omega arith) ∙ (let s = c .before .before in
+    sym (ap (λ (kind : ℕ). capped (following (s .args .a) (now (s .args .input)) (s .args .at) kind)) (c .match .keys4)))
 
 returns-5 : tie.Need-returns-5
 returns-5 c = let s = c .before .before .before .before in
     let k' = numberAt (now (s .args .input)) (s .args .at + 4) in
-    c .area2 .ensures ∙ ap (λ (k : ℕ). held (k * s .args .a .b)) (c .before .number-at .ensures .0)
-    ∙ ap held (sym (last-kind (s .args .kind) (s .args .a .k * s .args .a .b) 0 (s .args .a .b) 0 (k' * s .args .a .b) (c .before .before .match .rest)))
+    c .area2 .ensures ∙ ap (λ (k : ℕ). capped (k * s .args .a .b)) (c .before .number-at .ensures .0)
+    ∙ ap capped (sym (last-kind (s .args .kind) (s .args .a .k * s .args .a .b) 0 (s .args .a .b) 0 (k' * s .args .a .b) (c .before .before .match .rest)))
 
 pub following-spec : {M : Type 1} → statement M
 following-spec =

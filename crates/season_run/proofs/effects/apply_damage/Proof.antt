@@ -4,7 +4,7 @@ use native.Mathlib.Omega.{arith}
 use denote.Ref.{now}
 use Rattle.base.proofs.Parts.{row-ends}
 use Rattle.gates.specs.Valid.{DamageAccepted}
-use Rattle.season_file.specs.Answers.{answerOf}
+use Rattle.season_answers.specs.Answers.{answerOf}
 use Rattle.gates.proofs.Valid.{damage-accepted}
 use Rattle.season_run.proofs.Fronts.{blocks-room}
 use Rattle.season_run.proofs.Applied.{damage-applied}

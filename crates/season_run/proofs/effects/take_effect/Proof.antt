@@ -4,7 +4,7 @@ use native.Mathlib.Omega.{arith}
 use denote.Ref.{now}
 use mathlib.Core.List.{[]}
 use lib.ListN.{take}
-use Rattle.season_file.specs.Answers.{answerOf}
+use Rattle.season_answers.specs.Answers.{answerOf}
 use Rattle.season_file.specs.declared.Event.{Event}
 use Rattle.season_run.specs.Turning.{Ready, Effected}
 use Rattle.season_run.proofs.Applied.{refused-applied}

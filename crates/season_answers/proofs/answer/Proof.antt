@@ -1,10 +1,10 @@
--- By the kind: held lengths get the same answer. Assumes nothing.
+-- By the kind: capped lengths get the same answer. Assumes nothing.
 use mathlib.Core.Path.{sym, ap, _∙_}
-use Rattle.season_file.specs.Answers.{answerOf}
-use Rattle.season_file.proofs.Gated.{update-answer, repair-answer, damage-answer, decode-answer}
+use Rattle.season_answers.specs.Answers.{answerOf}
+use Rattle.season_answers.proofs.Gated.{update-answer, repair-answer, damage-answer, decode-answer}
 use borrow.Author.Needs.{needs}
-use Rattle.season_file.proofs.answering.answer.Statement.{statement}
-use Rattle.season_file.proofs.answering.answer.Tie as tie
+use Rattle.season_answers.proofs.answer.Statement.{statement}
+use Rattle.season_answers.proofs.answer.Tie as tie
 
 area-requires : tie.Need-area-requires
 area-requires c κs = search needs

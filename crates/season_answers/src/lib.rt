@@ -1,20 +1,20 @@
-// The answer to an event: the gate of its call, on the lengths that a run lends.
-use super::Event;
-use super::ReconfigureFields;
-use super::area;
+// The answer to an event of a season file: the gate of its call, on the lengths that a run lends. No field arithmetic.
 use gates::damage_gate;
 use gates::decode_gate;
 use gates::reconfigure_gate;
 use gates::repair_gate;
 use gates::update_gate;
 use params::Params;
+use season_file::Event;
+use season_file::ReconfigureFields;
+use season_file::area;
 ghost use mathlib.Core.Path.{_≡_};
 ghost use Prim.Native.Nat.{_*_};
-ghost use Rattle.season_file.specs.Parsing.{held};
-ghost use Rattle.season_file.specs.Answers.{answerOf};
+ghost use Rattle.season_file.specs.Lengths.{capped};
+ghost use Rattle.season_answers.specs.Answers.{answerOf};
 ghost use Rattle.season_file.specs.declared.Event.the-variants.{Reconfigure};
 
-// Lengths that are no usize are held at the largest: parameters with such lengths are refused before a length is looked at.
+// A length that no usize holds is taken as the largest one: parameters with such a length are refused before the length is looked at.
 pub fn answer(a: Params, e: Event) -> u32
     ensures { λ r. ⌜ r ≡ answerOf a e ⌝ }
 {
@@ -31,7 +31,7 @@ pub fn answer(a: Params, e: Event) -> u32
 
 // A rearrangement, with the length of the record in force.
 fn reconfigure_answer(a: Params, codeword: usize, f: ReconfigureFields) -> u32
-    requires { ⌜ codeword ≡ held (a .n * a .b) ⌝ }
+    requires { ⌜ codeword ≡ capped (a .n * a .b) ⌝ }
     ensures { λ r. ⌜ r ≡ answerOf a (Reconfigure f) ⌝ }
 {
     let shape = f.shape;

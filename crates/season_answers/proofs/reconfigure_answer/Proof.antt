@@ -1,8 +1,8 @@
--- Held lengths get the same answer. Assumes nothing.
-use Rattle.season_file.proofs.Gated.{reconfigure-answer}
+-- Capped lengths get the same answer. Assumes nothing.
+use Rattle.season_answers.proofs.Gated.{reconfigure-answer}
 use borrow.Author.Needs.{needs}
-use Rattle.season_file.proofs.answering.reconfigure_answer.Statement.{statement}
-use Rattle.season_file.proofs.answering.reconfigure_answer.Tie as tie
+use Rattle.season_answers.proofs.reconfigure_answer.Statement.{statement}
+use Rattle.season_answers.proofs.reconfigure_answer.Tie as tie
 
 area-requires : tie.Need-area-requires
 area-requires c κs = search needs
