@@ -1,4 +1,5 @@
-// The answer to an event of a season file: the gate of its call, on the lengths that a run lends. No field arithmetic.
+// What a line tells of an event of a season file: the number of its kind, and the answer, which is the gate of its call on the lengths that a run lends. No
+// field arithmetic.
 use gates::damage_gate;
 use gates::decode_gate;
 use gates::reconfigure_gate;
@@ -7,19 +8,31 @@ use gates::update_gate;
 use params::Params;
 use season_file::Event;
 use season_file::ReconfigureFields;
-use season_file::area;
 ghost use mathlib.Core.Path.{_≡_};
-ghost use Prim.Native.Nat.{_*_};
-ghost use Rattle.season_file.specs.Lengths.{capped};
-ghost use Rattle.season_answers.specs.Answers.{answerOf};
+ghost use Rattle.season_file.specs.File.{kindOf};
 ghost use Rattle.season_file.specs.declared.Event.the-variants.{Reconfigure};
+ghost use Rattle.season_answers.specs.Answers.{answerOf};
+ghost use Rattle.season_answers.specs.Extents.{Extent};
 
-// A length that no usize holds is taken as the largest one: parameters with such a length are refused before the length is looked at.
+// The number of the event's kind.
+pub fn kind_of(e: Event) -> u8
+    ensures { λ r. ⌜ r ≡ kindOf e ⌝ }
+{
+    match e {
+        Event::Update(_) => 1,
+        Event::Repair(_) => 2,
+        Event::Damage(_) => 3,
+        Event::Decode(_) => 4,
+        Event::Reconfigure(_) => 5,
+    }
+}
+
+// The answer to the event under the parameters in force.
 pub fn answer(a: Params, e: Event) -> u32
     ensures { λ r. ⌜ r ≡ answerOf a e ⌝ }
 {
-    let codeword = area(a.n, a.b);
-    let message = area(a.k, a.b);
+    let codeword = extent(a.n, a.b);
+    let message = extent(a.k, a.b);
     match e {
         Event::Update(f) => update_gate(a, codeword, message, f.to),
         Event::Repair(f) => repair_gate(a, codeword, f.from, f.lost),
@@ -29,13 +42,27 @@ pub fn answer(a: Params, e: Event) -> u32
     }
 }
 
-// A rearrangement, with the length of the record in force.
+// A rearrangement's, with the length of the record in force.
 fn reconfigure_answer(a: Params, codeword: usize, f: ReconfigureFields) -> u32
-    requires { ⌜ codeword ≡ capped (a .n * a .b) ⌝ }
+    requires { ⌜ Extent (a .n) (a .b) codeword ⌝ }
     ensures { λ r. ⌜ r ≡ answerOf a (Reconfigure f) ⌝ }
 {
     let shape = f.shape;
-    let new = area(shape.n, a.b);
-    let message = area(shape.k, a.b);
+    let new = extent(shape.n, a.b);
+    let message = extent(shape.k, a.b);
     reconfigure_gate(a, shape, codeword, new, message, f.from, f.to)
+}
+
+// The bytes of so many blocks of a size. Where valid parameters have no such blocks the answer may be any number: a gate refuses those parameters before it
+// looks at a length.
+fn extent(count: usize, size: usize) -> usize
+    ensures { λ r. ⌜ Extent count size r ⌝ }
+{
+    if 32 < count {
+        return 0;
+    }
+    if 1024 < size {
+        return 0;
+    }
+    count * size
 }

@@ -1,4 +1,4 @@
-pub mod Capped
+mod Capped
 mod Items
 mod Openings
 mod ByKind

@@ -90,7 +90,7 @@ pub enum Opening {
 }
 
 // How many bytes count blocks of a size have; the largest usize where they have more.
-pub fn area(count: usize, size: usize) -> usize
+fn area(count: usize, size: usize) -> usize
     ensures { λ r. ⌜ r ≡ capped (count * size) ⌝ }
 {
     if size == 0 {

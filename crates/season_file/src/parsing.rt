@@ -20,7 +20,7 @@ use params::Shape;
 ghost use mathlib.Core.Path.{_≡_};
 ghost use Prim.Native.Nat.{_+_, _≤_, _<_};
 ghost use lib.ListN.{length};
-ghost use Rattle.season_file.specs.File.{numberAt, choiceAt, paramsOf, openingOf, fixed, following, eventAt, kindOf, unknown, faultOf, fieldsAt, itemAt};
+ghost use Rattle.season_file.specs.File.{numberAt, choiceAt, paramsOf, openingOf, fixed, following, eventAt, unknown, faultOf, fieldsAt, itemAt};
 ghost use Rattle.season_file.specs.Lengths.{capped};
 ghost use Rattle.season_file.specs.declared.Event.the-variants.{Reconfigure};
 ghost use Rattle.params.specs.declared.Params.{Params};
@@ -215,18 +215,5 @@ fn reconfigure_at(input: &[u8], at: usize, count: usize) -> ReconfigureFields
         },
         to: set_at(input, at + 12),
         message: Span { at: at + 16, count },
-    }
-}
-
-// The number of the event's kind.
-pub fn kind_of(e: Event) -> u8
-    ensures { λ r. ⌜ r ≡ kindOf e ⌝ }
-{
-    match e {
-        Event::Update(_) => 1,
-        Event::Repair(_) => 2,
-        Event::Damage(_) => 3,
-        Event::Decode(_) => 4,
-        Event::Reconfigure(_) => 5,
     }
 }

@@ -1,4 +1,4 @@
--- By the kind: capped lengths get the same answer. Assumes nothing.
+-- By the kind. Assumes nothing.
 use mathlib.Core.Path.{sym, ap, _∙_}
 use Rattle.season_answers.specs.Answers.{answerOf}
 use Rattle.season_answers.proofs.Gated.{update-answer, repair-answer, damage-answer, decode-answer}
@@ -6,11 +6,11 @@ use borrow.Author.Needs.{needs}
 use Rattle.season_answers.proofs.answer.Statement.{statement}
 use Rattle.season_answers.proofs.answer.Tie as tie
 
-area-requires : tie.Need-area-requires
-area-requires c κs = search needs
+extent-requires : tie.Need-extent-requires
+extent-requires c κs = search needs
 
-area-requires-2 : tie.Need-area-requires-2
-area-requires-2 c κs = search needs
+extent-requires-2 : tie.Need-extent-requires-2
+extent-requires-2 c κs = search needs
 
 enum-known-e : tie.Need-enum-known-e
 enum-known-e c = search needs
@@ -43,16 +43,16 @@ reconfigure-answer-requires : tie.Need-reconfigure-answer-requires
 reconfigure-answer-requires c κs = search needs
 
 returns : tie.Need-returns
-returns c = update-answer _ _ _ _ _ (c .before .before .before .before .before .area .ensures) (c .before .before .before .before .area2 .ensures) _ (c .before .before .e .given .1) (c .update-gate .ensures)
+returns c = update-answer _ _ _ _ _ (c .before .before .before .before .before .extent .ensures) (c .before .before .before .before .extent2 .ensures) _ (c .before .before .e .given .1) (c .update-gate .ensures)
 
 returns-2 : tie.Need-returns-2
-returns-2 c = repair-answer _ _ _ _ _ (c .before .before .before .before .before .area .ensures) (c .before .before .e2 .given .1) (c .repair-gate .ensures)
+returns-2 c = repair-answer _ _ _ _ _ (c .before .before .before .before .before .extent .ensures) (c .before .before .e2 .given .1) (c .repair-gate .ensures)
 
 returns-3 : tie.Need-returns-3
 returns-3 c = damage-answer _ _ _ _ (c .before .before .e3 .given .1) (c .damage-gate .ensures)
 
 returns-4 : tie.Need-returns-4
-returns-4 c = decode-answer _ _ _ _ _ (c .before .before .before .before .before .area .ensures) (c .before .before .before .before .area2 .ensures) _ (c .before .before .e4 .given .1) (c .decode-gate .ensures)
+returns-4 c = decode-answer _ _ _ _ _ (c .before .before .before .before .before .extent .ensures) (c .before .before .before .before .extent2 .ensures) _ (c .before .before .e4 .given .1) (c .decode-gate .ensures)
 
 returns-5 : tie.Need-returns-5
 returns-5 c = c .reconfigure-answer .ensures ∙ sym (ap (answerOf _) (c .before .before .e5 .given .1))
@@ -61,8 +61,8 @@ pub answer-spec : {M : Type 1} → statement M
 answer-spec =
     tie.close
     (tie.spec
-    area-requires
-    area-requires-2
+    extent-requires
+    extent-requires-2
     enum-known-e
     update-gate-requires
     enum-known-e-2
