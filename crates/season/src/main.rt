@@ -1,5 +1,6 @@
 // The season program of document 01: a season file on standard input, a line for each event on standard output. A read that fails counts as the end of the
-// input; after a write that fails the program stops.
+// input. After a write that fails the program stops and says so on standard error, since a program of this language has no exit status.
+use libc::STDERR_FILENO;
 use libc::STDIN_FILENO;
 use libc::STDOUT_FILENO;
 use season_run::Next;
@@ -15,14 +16,16 @@ ghost use Rattle.season.specs.Loop.{Printed};
 fn main() {
     let mut input = [0u8; 65535];
     let count = io::read_full(STDIN_FILENO, &mut input);
-    run(&input[..count]);
+    if !run(&input[..count]) {
+        io::write_all(STDERR_FILENO, b"season: output cut short: it could not be written\n");
+    }
 }
 
-// Makes room for the record and for a line.
-fn run(input: &[u8]) {
+// Makes room for the record and for a line. The answer is whether all lines were written.
+fn run(input: &[u8]) -> bool {
     let mut codeword = [0u8; 32768];
     let mut line = [0u8; 65600];
-    run_within(input, &mut codeword, &mut line);
+    run_within(input, &mut codeword, &mut line)
 }
 
 // Writes each turn's line until the run ends; after a write that fails it stops and answers no. That the calls are the right ones, to the end, is proved
