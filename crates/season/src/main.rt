@@ -17,7 +17,10 @@ fn main() {
     let mut input = [0u8; 65535];
     let count = io::read_full(STDIN_FILENO, &mut input);
     if !run(&input[..count]) {
-        io::write_all(STDERR_FILENO, b"season: output cut short: it could not be written\n");
+        io::write_all(
+            STDERR_FILENO,
+            b"season: output cut short: it could not be written\n",
+        );
     }
 }
 

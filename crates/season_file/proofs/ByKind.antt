@@ -1,10 +1,10 @@
--- What a kind has that is not 1 to 4: the last case, by the tests. Assumes nothing.
+-- A kind that is none of 1 to 4 has what the last case says, by the tests. Assumes nothing.
 use mathlib.Core.Path.{_≡_}
 use Prim.Native.Nat.{ℕ}
 use borrow.Author.Tests.{ne-eqb}
 use Rattle.season_file.specs.File.{byKind}
 
--- not 1 to 4, as a match tells it
+-- none of 1 to 4, as a match tells it
 abbrev pub Last : ℕ → Type 0
 Last kind = (((Unit {0} × (kind ≡ 1 → ⊥)) × (kind ≡ 2 → ⊥)) × (kind ≡ 3 → ⊥)) × (kind ≡ 4 → ⊥)
 

@@ -126,7 +126,7 @@ fn is_unknown(kind: u8) -> bool
     5 < kind
 }
 
-// The event whose fields begin at `at`, if the bytes do not end before them.
+// The event of a known kind whose fields begin at `at`, or a fault if the bytes end before they do.
 fn fields_at(a: Params, input: &[u8], at: usize, kind: u8) -> Item
     requires { ⌜ (1 ≤ at) × (at ≤ length (now input)) ⌝ }
     ensures { λ r. ⌜ r ≡ fieldsAt a (now (input .entry)) at kind ⌝ }
@@ -159,7 +159,7 @@ fn fixed(kind: u8) -> usize
     }
 }
 
-// How many block bytes follow them, capped at the largest usize: by the arrangement in force, for a rearrangement by the new k.
+// How many block bytes follow those fields, the largest usize where there are more: by the arrangement in force, for a rearrangement by the new k.
 fn following(a: Params, input: &[u8], at: usize, kind: u8) -> usize
     requires { ⌜ at + fixed kind ≤ length (now input) ⌝ }
     ensures { λ r. ⌜ r ≡ capped (following a (now (input .entry)) at kind) ⌝ }
@@ -176,7 +176,7 @@ fn following(a: Params, input: &[u8], at: usize, kind: u8) -> usize
     }
 }
 
-// The event of a kind, with as many block bytes.
+// The event of a kind whose fields begin at `at`, with `count` block bytes.
 fn event_at(input: &[u8], at: usize, kind: u8, count: usize) -> Event
     requires { ⌜ at + fixed kind ≤ length (now input) ⌝ }
     ensures { λ r. ⌜ ((a : Params) → count ≡ following a (now (input .entry)) at kind → r ≡ eventAt a (now (input .entry)) at kind) ⌝ }

@@ -9,11 +9,11 @@ use lib.ListN.{length, take, drop, set, length-drop, length-set}
 use lib.Seq.{take-all, drop-cons, drop-set-lt, getD-set-same}
 use borrow.Author.Tests.{lt-ltb, le-ltb}
 use Rattle.season_lines.specs.Lines.{digitsBefore}
-use Rattle.season_lines.specs.Writing.{Put}
+use Rattle.season_lines.specs.Writing.{TextAt}
 
 -- the digits as they are lent
 pub put-tail : (start : ℕ) (digits text : List ℕ) (at : ℕ) (old : List ℕ) (next : ℕ) (new : List ℕ) → length digits ≡ 20 → drop start digits ≡ text
-    → Put (take (20 - start) (drop start digits)) at old next new → Put text at old next new
+    → TextAt (take (20 - start) (drop start digits)) at old next new → TextAt text at old next new
 put-tail start digits text at old next new h e p =
     let f : take (20 - start) (drop start digits) ≡ drop start digits = take-all (20 - start) (drop start digits) (omega (arith, length-drop start digits)) in
     rw e at (rw f at p)

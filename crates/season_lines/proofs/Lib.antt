@@ -1,4 +1,4 @@
 pub mod Decimal
 pub mod Hexadecimal
 mod Backwards
-mod Placing
+mod Texts

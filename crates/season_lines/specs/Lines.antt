@@ -33,11 +33,11 @@ messageField (x ∷ xs) = 32 ∷ hex (x ∷ xs)
 unfoldable pub lineOf : ℕ → ℕ → ℕ → List ℕ → List ℕ
 lineOf number kind answer message = decimal number ++ 32 ∷ decimal kind ++ 32 ∷ decimal answer ++ messageField message ++ 10 ∷ []
 
--- the room that every line with such a message has enough of
+-- a length that is enough for every line with this message
 abbrev pub room : List ℕ → ℕ
 room message = 64 + 2 * length message
 
--- new begins with the text, as many bytes as the answer tells, and is as it was behind them
+-- new begins with the text, which has as many bytes as are told to be written, and is as it was behind it
 pub record Wrote (text old : List ℕ) (written : ℕ) (new : List ℕ) : Type 0 where
   pub count : written ≡ length text
   pub bytes : new ≡ text ++ drop (length text) old

@@ -33,7 +33,9 @@ module _ (u : tie.After-turn Inv-loop μ-loop) where
   abbrev first : tie.After-begin Inv-loop μ-loop
   first = u .before .before .before .before .before .before .before .before .before .before .before .before .before .before
 
-  before-turn : (lines : List ℕ) × Calls (now (start first .args .input)) (now (start first .args .codeword)) (now (start first .args .line)) lines (On (u .before .before .before .loop .s)) (u .before .before .before .loop .codeword) (u .before .before .before .loop .line)
+  before-turn : let a = start first .args in
+      let l = u .before .before .before .loop in
+      (lines : List ℕ) × Calls (now (a .input)) (now (a .codeword)) (now (a .line)) lines (On (l .s)) (l .codeword) (l .line)
   before-turn = u .before .before .before .loop .inv .2 _ _ _ (onto (u .before .before .before .before .before .opened .given .1) (began (first .begin .ensures)))
 
 begin-requires : tie.Need-begin-requires Inv-loop μ-loop
@@ -64,7 +66,8 @@ same-length-4 : tie.Need-same-length-4 Inv-loop μ-loop
 same-length-4 c = search needs
 
 returns-2 : tie.Need-returns-2 Inv-loop μ-loop
-returns-2 c = let b = c .before .before .before .before .before .before .before .before .before in finished _ _ _ (bytes b) (start b .pre) _ _ _ _ (began (b .begin .ensures)) (c .enum-told .given .1)
+returns-2 c = let b = c .before .before .before .before .before .before .before .before .before in
+    finished _ _ _ (bytes b) (start b .pre) _ _ _ _ (began (b .begin .ensures)) (c .enum-told .given .1)
 
 loop-holds : tie.Need-loop-holds Inv-loop μ-loop
 loop-holds c = (refl, refl, λ _ _ lines calls. (lines, calls))
@@ -73,7 +76,8 @@ turn-requires : tie.Need-turn-requires Inv-loop μ-loop
 turn-requires c κs = search needs
 
 show-requires-2 : tie.Need-show-requires-2 Inv-loop μ-loop
-show-requires-2 c κs = let u = c .before .before .before .before .before in turn-within _ _ _ (bytes (first u)) (start (first u) .pre) _ _ _ _ (before-turn u .1) _ _ _ (u .turn .ensures)
+show-requires-2 c κs = let u = c .before .before .before .before .before in
+    turn-within _ _ _ (bytes (first u)) (start (first u) .pre) _ _ _ _ (before-turn u .1) _ _ _ (u .turn .ensures)
 
 same-length-5 : tie.Need-same-length-5 Inv-loop μ-loop
 same-length-5 c = search needs
@@ -82,7 +86,8 @@ same-length-6 : tie.Need-same-length-6 Inv-loop μ-loop
 same-length-6 c = search needs
 
 returns-3 : tie.Need-returns-3 Inv-loop μ-loop
-returns-3 c = let u = c .before .before .before .before .before .before .before in stopped _ _ _ (bytes (first u)) (start (first u) .pre) _ _ _ _ (turned (before-turn u .1) (u .turn .ensures))
+returns-3 c = let u = c .before .before .before .before .before .before .before in
+    stopped _ _ _ (bytes (first u)) (start (first u) .pre) _ _ _ _ (turned (before-turn u .1) (u .turn .ensures))
 
 enum-known-next : tie.Need-enum-known-next Inv-loop μ-loop
 enum-known-next c = search needs
@@ -97,13 +102,19 @@ same-length-8 : tie.Need-same-length-8 Inv-loop μ-loop
 same-length-8 c = search needs
 
 returns-4 : tie.Need-returns-4 Inv-loop μ-loop
-returns-4 c = let u = c .before .before .before .before .before .before .before .before .before in finished _ _ _ (bytes (first u)) (start (first u) .pre) _ _ _ _ (turned (before-turn u .1) (u .turn .ensures)) (c .enum-told2 .given .1)
+returns-4 c = let u = c .before .before .before .before .before .before .before .before .before in
+    finished _ _ _ (bytes (first u)) (start (first u) .pre) _ _ _ _ (turned (before-turn u .1) (u .turn .ensures)) (c .enum-told2 .given .1)
 
 loop-less : tie.Need-loop-less Inv-loop μ-loop
-loop-less c = let u = c .before .before .before .before .before .before .before .before .before .before in turn-fewer _ _ _ (bytes (first u)) (start (first u) .pre) _ _ _ _ (before-turn u .1) _ _ _ (u .turn .ensures) _ (c .before .next .given .1)
+loop-less c = let u = c .before .before .before .before .before .before .before .before .before .before in
+    turn-fewer _ _ _ (bytes (first u)) (start (first u) .pre) _ _ _ _ (before-turn u .1) _ _ _ (u .turn .ensures) _ (c .before .next .given .1)
 
 loop-again : tie.Need-loop-again Inv-loop μ-loop
-loop-again c = (search needs, search needs, λ _ _ lines calls. let u = c .before .before .before .before .before .before .before .before .before .before in (_, onto (c .before .next .given .1) (turned (u .before .before .before .loop .inv .2 _ _ lines calls .1) (u .turn .ensures))))
+loop-again c = let u = c .before .before .before .before .before .before .before .before .before .before in (
+  search needs,
+  search needs,
+  λ _ _ lines calls. (_, onto (c .before .next .given .1) (turned (u .before .before .before .loop .inv .2 _ _ lines calls .1) (u .turn .ensures))),
+)
 
 pub run-within-spec : {M : Type 1} → statement M
 run-within-spec =

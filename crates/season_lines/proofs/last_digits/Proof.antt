@@ -11,7 +11,8 @@ use Rattle.season_lines.proofs.last_digits.Statement.{statement}
 use Rattle.season_lines.proofs.last_digits.Tie as tie
 
 abbrev Inv-loop : tie.InvT-loop
-Inv-loop number digits₀ start₀ rest₀ digits start rest = (start ≤ 19) × ((length digits ≡ 20) × ((rest < 10 ^ (start + 1)) × (digitsBefore (start + 1) rest (drop (start + 1) digits) ≡ decimal number)))
+Inv-loop number digits₀ start₀ rest₀ digits start rest =
+    (start ≤ 19) × ((length digits ≡ 20) × ((rest < 10 ^ (start + 1)) × (digitsBefore (start + 1) rest (drop (start + 1) digits) ≡ decimal number)))
 
 abbrev μ-loop : tie.MeasureT-loop
 μ-loop number digits₀ start₀ rest₀ digits start rest = start

@@ -1,5 +1,5 @@
 -- One store. Assumes nothing.
-use Rattle.season_lines.proofs.Placing.{put-one}
+use Rattle.season_lines.proofs.Texts.{put-one}
 use borrow.Author.Needs.{needs}
 use Rattle.season_lines.proofs.put_byte.Statement.{statement}
 use Rattle.season_lines.proofs.put_byte.Tie as tie

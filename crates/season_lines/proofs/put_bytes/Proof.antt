@@ -4,14 +4,14 @@ use Prim.Native.Nat.{_+_, _-_, _≤_}
 use native.Mathlib.Omega.{arith}
 use denote.Ref.{now}
 use lib.ListN.{length, take, length-set}
-use Rattle.season_lines.specs.Writing.{Put}
-use Rattle.season_lines.proofs.Placing.{put-start, put-next, put-whole}
+use Rattle.season_lines.specs.Writing.{TextAt}
+use Rattle.season_lines.proofs.Texts.{put-start, put-next, put-whole}
 use borrow.Author.Needs.{needs}
 use Rattle.season_lines.proofs.put_bytes.Statement.{statement}
 use Rattle.season_lines.proofs.put_bytes.Tie as tie
 
 abbrev Inv-loop : tie.InvT-loop
-Inv-loop line₀ at text count i₀ line i = (i ≤ length text) × ((length line ≡ length line₀) × Put (take i text) at line₀ (at + i) line)
+Inv-loop line₀ at text count i₀ line i = (i ≤ length text) × ((length line ≡ length line₀) × TextAt (take i text) at line₀ (at + i) line)
 
 abbrev μ-loop : tie.MeasureT-loop
 μ-loop line₀ at text count i₀ line i = length text - i

@@ -1,7 +1,7 @@
 -- The digits behind the space. Assumes nothing.
 use mathlib.Core.List.{[], _∷_}
 use native.Mathlib.Omega.{arith}
-use Rattle.season_lines.proofs.Placing.{put-then}
+use Rattle.season_lines.proofs.Texts.{put-then}
 use borrow.Author.Needs.{needs}
 use Rattle.season_lines.proofs.put_field.Statement.{statement}
 use Rattle.season_lines.proofs.put_field.Tie as tie
@@ -16,7 +16,11 @@ same-length : tie.Need-same-length
 same-length c = search needs
 
 returns : tie.Need-returns
-returns c = put-then (32 ∷ []) _ _ _ _ _ _ _ (omega (arith, c .before .before .before .before .before .before .before .before .before .pre)) (c .before .before .before .before .before .before .put-byte .ensures) (c .before .before .put-number .ensures)
+returns c =
+    let n = c .before .before in
+    let b = n .before .before .before .before in
+    let s = b .before .before .before in
+    put-then (32 ∷ []) _ _ _ _ _ _ _ (omega (arith, s .pre)) (b .put-byte .ensures) (n .put-number .ensures)
 
 pub put-field-spec : {M : Type 1} → statement M
 put-field-spec = tie.close (tie.spec put-byte-requires put-number-requires same-length returns)

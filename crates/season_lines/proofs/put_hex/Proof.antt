@@ -5,14 +5,15 @@ use native.Mathlib.Omega.{arith}
 use denote.Ref.{now}
 use lib.ListN.{length, take, length-set}
 use Rattle.season_lines.specs.Lines.{hex}
-use Rattle.season_lines.specs.Writing.{Put}
-use Rattle.season_lines.proofs.Placing.{hex-start, hex-next, hex-whole}
+use Rattle.season_lines.specs.Writing.{TextAt}
+use Rattle.season_lines.proofs.Texts.{hex-start, hex-next, hex-whole}
 use borrow.Author.Needs.{needs}
 use Rattle.season_lines.proofs.put_hex.Statement.{statement}
 use Rattle.season_lines.proofs.put_hex.Tie as tie
 
 abbrev Inv-loop : tie.InvT-loop
-Inv-loop line₀ at message count next₀ i₀ line next i = (i ≤ length message) × ((next ≡ at + 2 * i) × ((length line ≡ length line₀) × Put (hex (take i message)) at line₀ next line))
+Inv-loop line₀ at message count next₀ i₀ line next i =
+    (i ≤ length message) × ((next ≡ at + 2 * i) × ((length line ≡ length line₀) × TextAt (hex (take i message)) at line₀ next line))
 
 abbrev μ-loop : tie.MeasureT-loop
 μ-loop line₀ at message count next₀ i₀ line next i = length message - i
@@ -36,7 +37,10 @@ add-line : tie.Need-add-line Inv-loop μ-loop
 add-line c = search needs
 
 slice-write-line-2 : tie.Need-slice-write-line-2 Inv-loop μ-loop
-slice-write-line-2 c = simp length-set (omega (arith, c .before .before .before .before .before .before .before .pre, c .before .before .before .before .loop .inv .1 .0, c .before .before .before .before .loop .inv .1 .1 .0))
+slice-write-line-2 c =
+    let l = c .before .before .before .before in
+    let s = l .before .before .before in
+    simp length-set (omega (arith, s .pre, l .loop .inv .1 .0, l .loop .inv .1 .1 .0))
 
 add-next : tie.Need-add-next Inv-loop μ-loop
 add-next c = search needs
@@ -55,7 +59,8 @@ loop-again c = let l = c .before .before .before .before .loop in
         omega (arith, l .inv .1 .0),
         (
           simp length-set (l .inv .1 .1 .0),
-          hex-next _ _ _ (l .i) _ _ _ _ (omega (arith, s .pre)) (omega (arith, s .pre, l .inv .1 .0, l .inv .1 .1 .0)) (omega arith) (c .before .hex-digit .ensures) (c .hex-digit2 .ensures) (l .inv .1 .1 .1),
+          hex-next _ _ _ (l .i) _ _ _ _ (omega (arith, s .pre)) (omega (arith, s .pre, l .inv .1 .0, l .inv .1 .1 .0)) (omega arith)
+              (c .before .hex-digit .ensures) (c .hex-digit2 .ensures) (l .inv .1 .1 .1),
         ),
       ),
     )

@@ -1,6 +1,6 @@
 -- A message that is not empty: the digits behind the space. Assumes nothing.
 use native.Mathlib.Omega.{arith}
-use Rattle.season_lines.proofs.Placing.{no-message, message-put}
+use Rattle.season_lines.proofs.Texts.{no-message, message-put}
 use borrow.Author.Needs.{needs}
 use Rattle.season_lines.proofs.put_message.Statement.{statement}
 use Rattle.season_lines.proofs.put_message.Tie as tie
@@ -18,7 +18,12 @@ same-length : tie.Need-same-length
 same-length c = search needs
 
 returns-2 : tie.Need-returns-2
-returns-2 c = message-put _ _ _ _ _ _ _ (c .before .before .before .before .before .before .before .before .if1 .left) (omega (arith, c .before .before .before .before .before .before .before .before .before .before .before .pre)) (c .before .before .before .before .before .before .put-byte .ensures) (c .before .before .put-hex .ensures)
+returns-2 c =
+    let h = c .before .before in
+    let b = h .before .before .before .before in
+    let t = b .before .before in
+    let s = t .before .before .before in
+    message-put _ _ _ _ _ _ _ (t .if1 .left) (omega (arith, s .pre)) (b .put-byte .ensures) (h .put-hex .ensures)
 
 pub put-message-spec : {M : Type 1} → statement M
 put-message-spec =

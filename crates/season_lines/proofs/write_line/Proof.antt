@@ -1,6 +1,6 @@
 -- The room is there, or nothing is written. Assumes nothing.
 use native.Mathlib.Omega.{arith}
-use Rattle.season_lines.proofs.Placing.{line-refused, line-served}
+use Rattle.season_lines.proofs.Texts.{line-refused, line-served}
 use borrow.Author.Needs.{needs}
 use Rattle.season_lines.proofs.write_line.Statement.{statement}
 use Rattle.season_lines.proofs.write_line.Tie as tie

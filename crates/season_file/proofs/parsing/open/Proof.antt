@@ -31,7 +31,8 @@ add-if4 : tie.Need-add-if4
 add-if4 c = search needs
 
 returns-4 : tie.Need-returns-4
-returns-4 c = cut _ (c .before .before .before .before .before .if1 .left) (sym (c .before .before .before .before .number-at .ensures .0) ∙ c .before .before .before .if2 .left)
+returns-4 c = let t = c .before .before .before in
+    cut _ (t .before .before .if1 .left) (sym (t .before .number-at .ensures .0) ∙ t .if2 .left)
     (omega (arith, c .if4 .taken, c .before .number-at2 .ensures .0))
 
 number-at-requires-3 : tie.Need-number-at-requires-3
@@ -47,9 +48,10 @@ add-if5 : tie.Need-add-if5
 add-if5 c = search needs
 
 returns-5 : tie.Need-returns-5
-returns-5 c = let i = now (c .before .before .before .before .before .before .before .before .before .args .input) in
+returns-5 c = let t = c .before .before .before .before .before in
+    let i = now (t .before .before .before .before .args .input) in
     let m = c .before .before .before .number-at2 .ensures .0 in
-    cut _ (c .before .before .before .before .before .before .before .if1 .left) (sym (c .before .before .before .before .before .before .number-at .ensures .0) ∙ c .before .before .before .before .before .if2 .left)
+    cut _ (t .before .before .if1 .left) (sym (t .before .number-at .ensures .0) ∙ t .if2 .left)
     (omega (arith, c .if5 .taken, m, c .before .number-at3 .ensures .0 ∙ ap (λ (k : ℕ). numberAt i (14 + k)) m))
 
 params-at-requires : tie.Need-params-at-requires
@@ -65,7 +67,8 @@ add-t12 : tie.Need-add-t12
 add-t12 c = search needs
 
 returns-6 : tie.Need-returns-6
-returns-6 c = opened _ (c .before .before .before .before .before .before .before .before .before .if1 .left) (sym (c .before .before .before .before .before .before .before .before .number-at .ensures .0) ∙ c .before .before .before .before .before .before .before .if2 .left) _ _ _ _
+returns-6 c = let t = c .before .before .before .before .before .before .before in
+    opened _ (t .before .before .if1 .left) (sym (t .before .number-at .ensures .0) ∙ t .if2 .left) _ _ _ _
     (c .before .params-at .ensures) (c .before .before .before .before .before .number-at2 .ensures .0) (c .before .before .before .number-at3 .ensures .0) (c .number-at4 .ensures .0)
     (omega (arith, c .before .before .if5 .left))
 
