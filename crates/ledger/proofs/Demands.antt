@@ -1,11 +1,14 @@
 -- The customer's three demands on one page. Demands 1 and 2 are the contracts of the calls (crates access, updates, maintenance and matrix, src/): each is proved to
 -- meet the post-condition named here, for all arguments (view_status answers viewGate). This page says what such a post-condition settles, and states demand 3. Assumes nothing.
-use mathlib.Core.Path.{_≡_}
+use mathlib.Core.Path.{_≡_, refl, sym, _∙_}
+use mathlib.Core.Bool.{true}
 use mathlib.Core.List.{List, [], _∷_}
 use mathlib.Core.Logic.{_↔_}
-use Prim.Native.Nat.{ℕ}
+use Prim.Native.Nat.{ℕ, suc, _<_}
 use lib.ListN.{length}
 use Rattle.base.specs.Gate.{firstNo}
+use Rattle.base.specs.Seq.{cell}
+use Rattle.field.specs.Field.{Bytes}
 use Rattle.matrix.specs.Invert.{InvertPost, sideAsked, lengthsAsked, inverseAsked, number as invertNumber}
 use Rattle.matrix.specs.declared.Inversion.{Inversion}
 use Rattle.matrix.proofs.Laws.{invert-once}
@@ -16,7 +19,10 @@ use Rattle.gates.specs.Gates.{encodeGate, decodeGate, deltaGate, updateGate, re
 use Rattle.code.specs.declared.Verdict.{Verdict}
 use Rattle.code.specs.Code.{Gives}
 use Rattle.code.specs.Calls.{Post, EncodePost, DecodePost, DeltaPost, UpdatePost, RepairPost, ReconfigurePost, CheckPost, ViewPost, number}
-use Rattle.code.proofs.Determined.{Once, encode-once, decode-once, delta-once, update-once, repair-once, reconfigure-once, check-once, view-once}
+use Rattle.gates.proofs.Valid.{encode-accepted, decode-accepted}
+use Rattle.code.proofs.Determined.{Met, Once, encode-met, encode-once, decode-met, decode-once, delta-met, delta-once, update-met, update-once, repair-met}
+use Rattle.code.proofs.Determined.{repair-once, reconfigure-met, reconfigure-once, check-met, check-once, view-met, view-once}
+use Rattle.code.proofs.Theorems.{decode-encode}
 use Rattle.ledger.specs.Ledger.{Held, Machine, Event, History, Reading}
 use Rattle.ledger.proofs.Demand3 as D3
 
@@ -63,35 +69,59 @@ demand-1 =
     told post = (post .number, post .refused)
 
 -- 2. "Every block, view, reading, difference, check, .. rebuilt block and rearranged record is what .. document 01 fixes": a call's answer and every byte of its
--- buffer are settled by its post-condition, which only one answer and one list of bytes satisfy.
+-- buffer are settled by its post-condition. One answer and one list of bytes satisfy it, where the slices lent hold bytes (as by their type they do), and no
+-- other does.
+abbrev pub Settled : Type 0 → (ℕ → List ℕ → Type 0) → Type 0
+Settled BytesLent Post = (BytesLent → Met Post) × Once Post
+
 pub record Demand2 : Type 0 where
-  pub set-up : (a : Params) (message slack old : List ℕ) → Once (EncodePost a message slack old)
-  pub reading : (a : Params) (codeword : List ℕ) (from : ℕ) (old : List ℕ) → Once (DecodePost a codeword from old)
-  pub difference : (a : Params) (change : List ℕ) (to : ℕ) (old : List ℕ) → Once (DeltaPost a change to old)
-  pub change : (a : Params) (d : List ℕ) (to : ℕ) (old : List ℕ) → Once (UpdatePost a d to old)
-  pub rebuild : (a : Params) (from lost : ℕ) (old : List ℕ) → Once (RepairPost a from lost old)
+  pub set-up : (a : Params) (message slack old : List ℕ) → Settled (Unit {0}) (EncodePost a message slack old)
+  pub reading : (a : Params) (codeword : List ℕ) (from : ℕ) (old : List ℕ) → Settled (Bytes codeword) (DecodePost a codeword from old)
+  pub difference : (a : Params) (change : List ℕ) (to : ℕ) (old : List ℕ) → Settled (Unit {0}) (DeltaPost a change to old)
+  pub change : (a : Params) (d : List ℕ) (to : ℕ) (old : List ℕ) → Settled (Unit {0}) (UpdatePost a d to old)
+  pub rebuild : (a : Params) (from lost : ℕ) (old : List ℕ) → Settled (Bytes old) (RepairPost a from lost old)
   pub rearrangement : (a : Params) (t : Shape) (codeword : List ℕ) (from to : ℕ) (message old : List ℕ)
-      → Once (ReconfigurePost a t codeword from to message old)
-  pub check : (a : Params) (codeword : List ℕ) (answer answer′ : Verdict) → CheckPost a codeword answer → CheckPost a codeword answer′
-      → answer ≡ answer′
-  pub view : (a : Params) (codeword : List ℕ) (node : ℕ) (part part′ : List ℕ) → ViewPost a codeword node part → ViewPost a codeword node part′
-      → part ≡ part′
+      → Settled (Bytes codeword × Bytes message) (ReconfigurePost a t codeword from to message old)
+  pub check : (a : Params) (codeword : List ℕ) → (Bytes codeword → (answer : Verdict) × CheckPost a codeword answer)
+      × ((answer answer′ : Verdict) → CheckPost a codeword answer → CheckPost a codeword answer′ → answer ≡ answer′)
+  pub view : (a : Params) (codeword : List ℕ) (node : ℕ) → ((part : List ℕ) × ViewPost a codeword node part)
+      × ((part part′ : List ℕ) → ViewPost a codeword node part → ViewPost a codeword node part′ → part ≡ part′)
   pub inverse : (s : ℕ) (m old : List ℕ) (answer answer′ : Inversion) (new new′ : List ℕ) → InvertPost s m old answer new
       → InvertPost s m old answer′ new′ → (invertNumber answer ≡ invertNumber answer′) × (new ≡ new′)
 
 pub demand-2 : Demand2
 demand-2 =
     record {
-      set-up = encode-once;
-      reading = decode-once;
-      difference = delta-once;
-      change = update-once;
-      rebuild = repair-once;
-      rearrangement = reconfigure-once;
-      check = check-once;
-      view = view-once;
+      set-up = λ a message slack old. (λ _. encode-met a message slack old, encode-once a message slack old);
+      reading = λ a codeword from old. (decode-met a codeword from old, decode-once a codeword from old);
+      difference = λ a d to old. (λ _. delta-met a d to old, delta-once a d to old);
+      change = λ a d to old. (λ _. update-met a d to old, update-once a d to old);
+      rebuild = λ a from lost old. (repair-met a from lost old, repair-once a from lost old);
+      rearrangement = λ a t codeword from to message old.
+          (λ h. reconfigure-met a t codeword from to message old (h .0) (h .1), reconfigure-once a t codeword from to message old);
+      check = λ a codeword. (check-met a codeword, check-once a codeword);
+      view = λ a codeword node. (view-met a codeword node, view-once a codeword node);
       inverse = invert-once;
     }
+
+-- From message to blocks, and from any r blocks back: an accepted reading through nodes that hold their blocks of an accepted set-up gives its message, whatever
+-- the other nodes hold.
+abbrev pub SameAt : Params → ℕ → List ℕ → List ℕ → Type 0
+SameAt a from left codeword = (j p : ℕ) → j < a .n → has from (suc j) ≡ true → p < a .b → cell (a .b) left j p ≡ cell (a .b) codeword j p
+
+pub demand-2-back : (a : Params) (message slack old codeword left buffer out : List ℕ) (from : ℕ) → Bytes message → Bytes slack
+    → EncodePost a message slack old 0 codeword → SameAt a from left codeword → DecodePost a left from buffer 0 out → out ≡ message
+demand-2-back a message slack old codeword left buffer out from hm hs set-up same reading =
+    let e = encode-accepted a _ _ _ .0 (sym (set-up .number)) in
+    let d = decode-accepted a _ _ from .0 (sym (reading .number)) in
+    let g = reading .served refl .gives in
+    decode-encode a (e .valid) from (d .from-within) (d .from-size) message slack codeword out
+    (record { message = record { length-is = e .message-length; bytes = hm }; slack = record { length-is = e .slack-length; bytes = hs } })
+    (set-up .served refl)
+    (record {
+      slack = reading .served refl .slack;
+      gives = record { pair = g .pair; equal = λ j p hj s hp. g .equal j p hj s hp ∙ same j p hj s hp };
+    })
 
 -- 3. For every list that document 01 allows (History: it opens with an accepted set-up; accepted rebuilds and rearrangements read undamaged nodes) and every
 -- accepted reading after it through undamaged nodes (Reading): the bytes read are the ledger's, ..
