@@ -10,7 +10,8 @@ use Rattle.gates.proofs.Valid.{decode-accepted}
 use Rattle.code.specs.Code.{Gives}
 use Rattle.code.proofs.Theorems.{decode-message, decode-one}
 use Rattle.ledger.specs.Ledger.{Held, Machine, Event, History, Reading}
-use Rattle.ledger.proofs.Invariant.{undamaged-gives, history-agrees}
+use Rattle.ledger.proofs.Sound.{undamaged-gives}
+use Rattle.ledger.proofs.Invariant.{history-agrees}
 
 -- "r being that of the arrangement then in force": system and machine have the same parameters.
 pub in-force : {events : List Event} {h : Held} {m : Machine} → History events h m → h .params ≡ m .params
@@ -20,10 +21,10 @@ in-force y = history-agrees y .same
 pub reading-is-ledger : {events : List Event} {h : Held} {m : Machine} {out : List ℕ} → History events h m → Reading h m out
     → out ≡ m .ledger
 reading-is-ledger {h = h} {m = m} {out = out} y rd =
-    let i = history-agrees y in
+    let i = history-agrees y .sound in
     let g = decode-accepted (h .params) (length (h .codeword)) (length (rd .buffer)) (rd .from) .0 (sym (rd .accepted .number)) in
     decode-message (h .params) (g .valid) (rd .from) (g .from-within) (g .from-size) (m .ledger) (i .slack) (h .codeword) out
-    (undamaged-gives h m i (rd .from) (rd .undamaged)) (rd .accepted .served refl)
+    (undamaged-gives (h .params) (h .codeword) (m .ledger) (m .damaged) i (rd .from) (rd .undamaged)) (rd .accepted .served refl)
 
 -- "That reading is also the message of document 01's one pair that gives the blocks read."
 pub reading-is-the-pair's : {events : List Event} {h : Held} {m : Machine} {out : List ℕ} → History events h m → (rd : Reading h m out)

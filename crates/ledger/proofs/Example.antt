@@ -1,6 +1,6 @@
--- A list with every kind of event, served and refused, shown to be a history by computing its posts; and the reading after it. Assumes nothing.
+-- A list with every kind of event, accepted and refused, shown to be a history by computing its posts; and the reading after it. Assumes nothing.
 use mathlib.Core.Path.{_≡_, refl}
-use mathlib.Core.Bool.{false, not, _&&_, _||_}
+use mathlib.Core.Bool.{not, _&&_, _||_}
 use mathlib.Core.List.{List, [], _∷_}
 use Prim.Native.Nat.{ℕ, suc}
 use native.Mathlib.Omega.{arith}
@@ -16,57 +16,106 @@ use Rattle.params.specs.Params.{slackParts, working}
 use Rattle.gates.specs.Gates.{encodeGate, decodeGate, deltaGate, updateGate, repairGate, reconfigureGate, checkGate, viewGate, damageGate}
 use Rattle.code.specs.Code.{point, block}
 use Rattle.code.specs.Calls.{Post}
-use Rattle.code.specs.declared.Verdict.the-variants.{Agrees}
-use Rattle.ledger.specs.Ledger.{Held, Machine, held, Event, encode, update, repair, reconfigure, decode, delta, check, view, damage, damagedWord, encoded, updated, repaired, reconfigured, decoded, differed, checked, viewed, damaged, ledgerPlus, Run, done, more, History, Reading}
+use Rattle.code.specs.declared.Verdict.the-variants.{Refused, Agrees}
+use Rattle.ledger.specs.Ledger.{Held, begun, Machine, opened, held, other, encode, update, repair, reconfigure, decode, delta, check, view, Call, Event}
+use Rattle.ledger.specs.Ledger.{call, damage, damagedWord, encoded, updated, repaired, reconfigured, decoded, differed, checked, viewed}
+use Rattle.ledger.specs.Ledger.{damaged, ledgerPlus, Run, done, more, History, Reading}
 use Rattle.ledger.proofs.Computed.{bytes, encode-by, decode-by, delta-by, update-by, repair-by, reconfigure-by, check-by, undamaged-by}
+use Rattle.ledger.proofs.Invariant.{given-in-force}
 use Rattle.ledger.proofs.Demand3.{reading-is-ledger}
 use Rattle.ledger.proofs.Figures.{small}
 
--- from 06 0A 0C, change 05 through nodes 1 and 2 leaves 00 0C 0C
-abbrev change : Event
-change = update small held (0x05 ∷ []) 0b011
+-- a call that is given the parameters and the record in force
+abbrev on-held : Call → Event
+on-held = call (record { params = small; codeword = held })
 
--- events that alter nothing
+-- ---- accepted, from 06 0A 0C
+
+-- node 2's block is 0A, which no other node has
+abbrev viewing : Event
+viewing = on-held (view 2)
+
+-- change 05 through nodes 1 and 2 leaves 00 0C 0C
+abbrev change : Event
+change = on-held (update (0x05 ∷ []) 0b011)
+
 abbrev reading : Event
-reading = decode small held (0x00 ∷ []) 0b101
+reading = on-held (decode (0x00 ∷ []) 0b101)
 
 abbrev difference : Event
-difference = delta small (0x05 ∷ []) (0x00 ∷ 0x00 ∷ []) 0b011
+difference = on-held (delta (0x05 ∷ []) (0x00 ∷ 0x00 ∷ []) 0b011)
 
 abbrev checking : Event
-checking = check small held
+checking = on-held check
 
-abbrev viewing : Event
-viewing = view small held 2
+-- ---- refused, each kind once
 
--- refused: a change through one node, and a set-up with a slack too long
-abbrev bad-change : Event
-bad-change = update small held (0x05 ∷ []) 0b001
-
+-- the slack is too long: 6
 abbrev bad-set-up : Event
-bad-set-up = encode small (0x07 ∷ []) (0x01 ∷ 0x01 ∷ []) held
+bad-set-up = on-held (encode (0x07 ∷ []) (0x01 ∷ 0x01 ∷ []))
 
--- node 1 is damaged, and rebuilt
+-- through one node: 8
+abbrev bad-change : Event
+bad-change = on-held (update (0x05 ∷ []) 0b001)
+
+-- a node that is lost is read: 9
+abbrev bad-rebuild : Event
+bad-rebuild = on-held (repair 0b011 0b001)
+
+-- to (1,2,2,2), where r + w is not k + n: 14
+abbrev bad-rearrangement : Event
+bad-rearrangement = on-held (reconfigure (record { k = 1; r = 2; w = 2; n = 2 }) (0x00 ∷ 0x00 ∷ []) (0x09 ∷ []) 0b011 0b011)
+
+-- node 4 is read: 7
+abbrev bad-reading : Event
+bad-reading = on-held (decode (0x00 ∷ []) 0b1001)
+
+-- with blocks of no bytes: 5
+abbrev bad-difference : Event
+bad-difference = call (record { params = record { k = 1; r = 2; w = 2; n = 3; b = 0 }; codeword = held }) (delta [] [] 0b011)
+
+-- another record, which is too short: 6
+abbrev bad-check : Event
+bad-check = call (record { params = small; codeword = other (0x06 ∷ 0x0a ∷ []) }) check
+
+-- of node 0: 10
+abbrev bad-view : Event
+bad-view = on-held (view 0)
+
+-- to node 4: 10
+abbrev bad-blow : Event
+bad-blow = damage 4 (0xff ∷ [])
+
+-- ---- accepted, over damaged nodes
+
+-- node 1 is damaged: FF 0C 0C
 abbrev blow : Event
 blow = damage 1 (0xff ∷ [])
 
-abbrev rebuild : Event
-rebuild = repair small held 0b110 0b001
+-- change 05 through nodes 1 and 2 leaves F9 0A 0C, and node 1 damaged
+abbrev change-over : Event
+change-over = on-held (update (0x05 ∷ []) 0b011)
 
--- node 1 is damaged again, and its block copied into the next record, AA 36 36, whose message is 09
+-- node 1 is rebuilt: 06 0A 0C
+abbrev rebuild : Event
+rebuild = on-held (repair 0b110 0b001)
+
+-- node 1 is damaged again, and its block copied into the next record, AA 2E 28, whose message is 09
 abbrev second-blow : Event
 second-blow = damage 1 (0xaa ∷ [])
 
-abbrev rearranged : Event
-rearranged = reconfigure small (record { k = 1; r = 2; w = 2; n = 3 }) held (0x00 ∷ 0x00 ∷ 0x00 ∷ []) (0x09 ∷ []) 0b110 0b110
+abbrev rearrangement : Event
+rearrangement = on-held (reconfigure (record { k = 1; r = 2; w = 2; n = 3 }) (0x00 ∷ 0x00 ∷ 0x00 ∷ []) (0x09 ∷ []) 0b110 0b110)
 
 -- all nodes are written anew for (2,2,3,3): 00 06 06
-abbrev widened : Event
-widened = reconfigure small (record { k = 2; r = 2; w = 3; n = 3 }) held (0x00 ∷ 0x00 ∷ 0x00 ∷ []) (0x01 ∷ 0x01 ∷ []) 0b110 0b111
+abbrev widening : Event
+widening = on-held (reconfigure (record { k = 2; r = 2; w = 3; n = 3 }) (0x00 ∷ 0x00 ∷ 0x00 ∷ []) (0x01 ∷ 0x01 ∷ []) 0b110 0b111)
 
 abbrev pub events : List Event
 events =
-    change ∷ reading ∷ difference ∷ checking ∷ viewing ∷ bad-change ∷ bad-set-up ∷ blow ∷ rebuild ∷ second-blow ∷ rearranged ∷ widened ∷ []
+    viewing ∷ change ∷ reading ∷ difference ∷ checking ∷
+    bad-set-up ∷ bad-change ∷ bad-rebuild ∷ bad-rearrangement ∷ bad-reading ∷ bad-difference ∷ bad-check ∷ bad-view ∷ bad-blow ∷
+    blow ∷ change-over ∷ rebuild ∷ second-blow ∷ rearrangement ∷ widening ∷ []
 
 -- what the list leaves, and what the machine then holds
 abbrev pub left : Held
@@ -88,28 +137,41 @@ never q z = omega arith
 refused : {gate : ℕ} {A : Type 0} {old : List ℕ} (q : ℕ) → suc q ≡ gate → Post gate (suc q) A (old ≡ old)
 refused q e = record { number = e; served = λ z. absurd (never q z); refused = λ _. refl }
 
-run : Run (record { params = small; codeword = 0x06 ∷ 0x0a ∷ 0x0c ∷ [] }) (record { params = small; ledger = 0x07 ∷ []; damaged = λ i. false }) events left machine
-unfolding encodeGate decodeGate deltaGate updateGate repairGate reconfigureGate checkGate viewGate damageGate firstNo slackParts working has size ones within disjoint count cell blocks tabulate block point evaluate sum add mul pow damagedWord ledgerPlus
+run : Run (begun small (0x06 ∷ 0x0a ∷ 0x0c ∷ [])) (opened small (0x07 ∷ [])) events left machine
+unfolding encodeGate decodeGate deltaGate updateGate repairGate reconfigureGate checkGate viewGate damageGate firstNo slackParts working
+    has size ones within disjoint count cell blocks tabulate block point evaluate sum add mul pow damagedWord ledgerPlus
 run =
-    more {e = change} (tt, bytes (0x05 ∷ []) tt, omega arith) (λ _. (refl, refl))
+    more {e = viewing} tt (λ _. given-in-force _) (viewed (0x0a ∷ []) refl (record { number = refl; served = λ _. refl; refused = λ ne. absurd (ne refl) })) (
+    more {e = change} (tt, bytes (0x05 ∷ []) tt, omega arith) (λ _. given-in-force _)
     (updated 0 (0x00 ∷ 0x0c ∷ 0x0c ∷ []) (update-by _ _ _ _ _ (0x03 ∷ []) tt)) (
-    more {e = reading} (tt, bytes (0x00 ∷ []) tt, omega arith) (λ _. (refl, refl)) (decoded 0 (0x02 ∷ []) (decode-by _ _ _ _ (0x02 ∷ []) tt _ refl)) (
+    more {e = reading} (tt, bytes (0x00 ∷ []) tt, omega arith) (λ _. given-in-force _) (decoded 0 (0x02 ∷ []) (decode-by _ _ _ _ (0x02 ∷ []) tt _ refl)) (
     more {e = difference} (bytes (0x05 ∷ []) tt, bytes (0x00 ∷ 0x00 ∷ []) tt, omega arith) (λ _. refl)
     (differed 0 (0x06 ∷ 0x06 ∷ []) (delta-by _ _ _ _ (0x03 ∷ []) tt _ refl)) (
-    more {e = checking} tt (λ _. (refl, refl)) (checked Agrees (check-by _ _ (0x02 ∷ []) (0x02 ∷ []) tt)) (
-    more {e = viewing} tt (λ _. (refl, refl)) (viewed (0x0c ∷ []) (record { number = refl; served = λ _. refl; refused = λ ne. absurd (ne refl) })) (
+    more {e = checking} tt (λ _. given-in-force _) (checked Agrees refl (check-by _ _ (0x02 ∷ []) (0x02 ∷ []) tt)) (
+    more {e = bad-set-up} (tt, bytes (0x07 ∷ []) tt, bytes (0x01 ∷ 0x01 ∷ []) tt) (λ z. absurd (never 5 z)) (encoded 6 _ (refused 5 refl)) (
     more {e = bad-change} (tt, bytes (0x05 ∷ []) tt, omega arith) (λ z. absurd (never 7 z)) (updated 8 _ (refused 7 refl)) (
-    more {e = bad-set-up} (bytes (0x07 ∷ []) tt, bytes (0x01 ∷ 0x01 ∷ []) tt, tt) (λ z. absurd (never 5 z)) (encoded 6 _ (refused 5 refl)) (
-    more {e = blow} (bytes (0xff ∷ []) tt) (λ _. tt) damaged (
-    more {e = rebuild} (tt, omega arith, omega arith) (λ _. (refl, refl, undamaged-by _ 0b110 (omega arith) tt))
-    (repaired 0 (0x00 ∷ 0x0c ∷ 0x0c ∷ []) (repair-by _ _ _ _ _ (0x02 ∷ []) (0x02 ∷ []) tt)) (
-    more {e = second-blow} (bytes (0xaa ∷ []) tt) (λ _. tt) damaged (
-    more {e = rearranged} (tt, bytes (0x00 ∷ 0x00 ∷ 0x00 ∷ []) tt, bytes (0x09 ∷ []) tt, omega arith, omega arith)
-    (λ _. (refl, refl, undamaged-by _ 0b110 (omega arith) tt))
-    (reconfigured 0 (0xaa ∷ 0x36 ∷ 0x36 ∷ []) (reconfigure-by _ _ _ _ _ _ _ (0x02 ∷ []) (0x02 ∷ []) (0x09 ∷ []) tt _ refl)) (
-    more {e = widened} (tt, bytes (0x00 ∷ 0x00 ∷ 0x00 ∷ []) tt, bytes (0x01 ∷ 0x01 ∷ []) tt, omega arith, omega arith)
-    (λ _. (refl, refl, undamaged-by _ 0b110 (omega arith) tt))
-    (reconfigured 0 (0x00 ∷ 0x06 ∷ 0x06 ∷ []) (reconfigure-by _ _ _ _ _ _ _ (0x09 ∷ []) (0x09 ∷ []) [] tt _ refl)) done)))))))))))
+    more {e = bad-rebuild} (tt, omega arith, omega arith) (λ z. absurd (never 8 z)) (repaired 9 _ (refused 8 refl)) (
+    more {e = bad-rearrangement} (tt, bytes (0x00 ∷ 0x00 ∷ []) tt, bytes (0x09 ∷ []) tt, omega arith, omega arith) (λ z. absurd (never 13 z))
+    (reconfigured 14 (0x00 ∷ 0x00 ∷ []) (refused 13 refl)) (
+    more {e = bad-reading} (tt, bytes (0x00 ∷ []) tt, omega arith) (λ z. absurd (never 6 z)) (decoded 7 (0x00 ∷ []) (refused 6 refl)) (
+    more {e = bad-difference} (bytes [] tt, bytes [] tt, omega arith) (λ z. absurd (never 4 z)) (differed 5 [] (refused 4 refl)) (
+    more {e = bad-check} (bytes (0x06 ∷ 0x0a ∷ []) tt) (λ z. absurd (never 5 z))
+    (checked (Refused 6) refl (record { number = refl; served = λ z. absurd (never 5 z); refused = λ _. refl }, never 5)) (
+    more {e = bad-view} tt (λ z. absurd (never 9 z))
+    (viewed {q = 10} [] refl (record { number = refl; served = λ z. absurd (never 9 z); refused = λ _. refl })) (
+    more {e = bad-blow} (bytes (0xff ∷ []) tt) (λ _. tt) (damaged refl) (
+    more {e = blow} (bytes (0xff ∷ []) tt) (λ _. tt) (damaged refl) (
+    more {e = change-over} (tt, bytes (0x05 ∷ []) tt, omega arith) (λ _. given-in-force _)
+    (updated 0 (0xf9 ∷ 0x0a ∷ 0x0c ∷ []) (update-by _ _ _ _ _ (0x03 ∷ []) tt)) (
+    more {e = rebuild} (tt, omega arith, omega arith) (λ _. (given-in-force _, undamaged-by _ 0b110 (omega arith) tt))
+    (repaired 0 (0x06 ∷ 0x0a ∷ 0x0c ∷ []) (repair-by _ _ _ _ _ (0x07 ∷ []) (0x01 ∷ []) tt)) (
+    more {e = second-blow} (bytes (0xaa ∷ []) tt) (λ _. tt) (damaged refl) (
+    more {e = rearrangement} (tt, bytes (0x00 ∷ 0x00 ∷ 0x00 ∷ []) tt, bytes (0x09 ∷ []) tt, omega arith, omega arith)
+    (λ _. (given-in-force _, undamaged-by _ 0b110 (omega arith) tt))
+    (reconfigured 0 (0xaa ∷ 0x2e ∷ 0x28 ∷ []) (reconfigure-by _ _ _ _ _ _ _ (0x07 ∷ []) (0x01 ∷ []) (0x0f ∷ []) tt _ refl)) (
+    more {e = widening} (tt, bytes (0x00 ∷ 0x00 ∷ 0x00 ∷ []) tt, bytes (0x01 ∷ 0x01 ∷ []) tt, omega arith, omega arith)
+    (λ _. (given-in-force _, undamaged-by _ 0b110 (omega arith) tt))
+    (reconfigured 0 (0x00 ∷ 0x06 ∷ 0x06 ∷ []) (reconfigure-by _ _ _ _ _ _ _ (0x09 ∷ []) (0x0f ∷ []) [] tt _ refl)) done)))))))))))))))))))
 
 -- The list is a history, ..
 pub example : History events left machine

@@ -1,3 +1,4 @@
+pub mod Sound
 pub mod Invariant
 pub mod Demand3
 pub mod Demands

@@ -17,7 +17,7 @@ use Rattle.field.proofs.Addition.{add-byte}
 use Rattle.interpolation.proofs.Rows.{bytes-blocks, cell-byte}
 use Rattle.params.specs.Nodes.{has}
 use Rattle.params.specs.Params.{reshaped}
-use Rattle.gates.specs.Gates.{decodeGate, damageGate}
+use Rattle.gates.specs.Gates.{decodeGate}
 use Rattle.gates.specs.Valid.{Valid}
 use Rattle.params.specs.declared.Params.{Params}
 use Rattle.params.specs.declared.Shape.{Shape}
@@ -25,7 +25,10 @@ use Rattle.gates.proofs.Valid.{encode-accepted, update-accepted, repair-accepte
 use Rattle.code.specs.Calls.{Post, EncodePost, DecodePost, UpdatePost, RepairPost, ReconfigurePost, writes}
 use Rattle.code.proofs.Additivity.{block-byte}
 use Rattle.code.proofs.Determined.{encode-met, encode-once, decode-met, delta-met, update-met, update-once, repair-met, repair-once, reconfigure-met, reconfigure-once, check-met, view-met}
-use Rattle.ledger.specs.Ledger.{Held, Machine, Lent, held, other, Event, encode, update, repair, reconfigure, decode, delta, check, view, damage, lent, wrote, moved, chosen, damagedWord, damagedHeld, Step, encoded, updated, repaired, reconfigured, decoded, differed, checked, viewed, damaged, LentBytes, Typed, Run, done, more, History, Undamaged, Reading}
+use Rattle.ledger.specs.Ledger.{Held, Machine, Lent, held, other, withCodeword, Given, encode, update, repair, reconfigure, decode, delta, check, view}
+use Rattle.ledger.specs.Ledger.{Event, call, damage, bytesLent, bytesLeft, lent, wrote, moved, chosen, damagedWord, damagedHeld, Step, encoded, updated}
+use Rattle.ledger.specs.Ledger.{repaired, reconfigured, decoded, differed, checked, viewed, damaged, LentBytes, GivenBytes, Typed, Run, done, more}
+use Rattle.ledger.specs.Ledger.{History, Undamaged, Reading}
 
 pub record Whole (h : Held) : Type 0 where
   pub valid : Valid (h .params)
@@ -100,13 +103,19 @@ repair-kept a from lost old answer new h =
 
 -- ---- every step leaves a whole state
 
-lent-bytes : (h : Held) (l : Lent) → Whole h → LentBytes l → Bytes (lent h l)
-lent-bytes h held w t = w .bytes
-lent-bytes h (other bytes) w t = t
+bytes-lent : (own : List ℕ) (l : Lent) → Bytes own → LentBytes l → Bytes (bytesLent own l)
+bytes-lent own held w t = w
+bytes-lent own (other bytes) w t = t
 
-wrote-whole : (h : Held) (l : Lent) (new : List ℕ) → Whole h → Kept (lent h l) new → Whole (wrote h l new)
-wrote-whole h held new w k = record { valid = w .valid; length-is = k .0 ∙ w .length-is; bytes = k .1 }
-wrote-whole h (other bytes) new w k = w
+lent-bytes : (h : Held) (g : Given) → Whole h → GivenBytes g → Bytes (lent h g)
+lent-bytes h g w = bytes-lent (h .codeword) (g .codeword) (w .bytes)
+
+wrote-whole : (h : Held) (g : Given) (new : List ℕ) → Whole h → Kept (lent h g) new → Whole (wrote h g new)
+wrote-whole h g new w = go (g .codeword)
+  where
+    go : (l : Lent) → Kept (bytesLent (h .codeword) l) new → Whole (withCodeword (bytesLeft (h .codeword) l new) h)
+    go held k = record { valid = w .valid; length-is = k .0 ∙ w .length-is; bytes = k .1 }
+    go (other bytes) k = w
 
 moved-whole : (h : Held) (a : Params) (t : Shape) (old : List ℕ) (from to : ℕ) (x buffer : List ℕ) (answer : ℕ) (new : List ℕ) → Whole h → Bytes old
     → ReconfigurePost a t old from to x buffer answer new → Whole (moved answer h a t new)
@@ -139,18 +148,20 @@ damaged-whole zero h node bytes w t =
     }
 damaged-whole (suc q) h node bytes w t = w
 
-pub step-whole : (h : Held) {h′ : Held} (e : Event) → Whole h → Typed e → Step h e h′ → Whole h′
-step-whole h (encode a x v l) w t (encoded answer new post) = wrote-whole h l new w (encode-kept a x v _ answer new (lent-bytes h l w (t .2)) post)
-step-whole h (update a l d to) w t (updated answer new post) = wrote-whole h l new w (update-kept a d to _ answer new (lent-bytes h l w (t .0)) post)
-step-whole h (repair a l from lost) w t (repaired answer new post) =
-    wrote-whole h l new w (repair-kept a from lost _ answer new (lent-bytes h l w (t .0)) post)
-step-whole h (reconfigure a t l buffer x from to) w ty (reconfigured answer new post) =
-    moved-whole h a t _ from to x buffer answer new w (lent-bytes h l w (ty .0)) post
-step-whole h (decode a l buffer from) w t (decoded answer out post) = w
-step-whole h (delta a d buffer to) w t (differed answer out post) = w
-step-whole h (check a l) w t (checked answer post) = w
-step-whole h (view a l node) w t (viewed part post) = w
-step-whole h (damage node bytes) w t damaged = damaged-whole (damageGate (h .params .n) node) h node bytes w t
+pub step-whole : (h : Held) {h′ : Held} {q : ℕ} (e : Event) → Whole h → Typed e → Step h e q h′ → Whole h′
+step-whole h (call g (encode x v)) w t (encoded answer new post) =
+    wrote-whole h g new w (encode-kept (g .params) x v _ answer new (lent-bytes h g w (t .0)) post)
+step-whole h (call g (update d to)) w t (updated answer new post) =
+    wrote-whole h g new w (update-kept (g .params) d to _ answer new (lent-bytes h g w (t .0)) post)
+step-whole h (call g (repair from lost)) w t (repaired answer new post) =
+    wrote-whole h g new w (repair-kept (g .params) from lost _ answer new (lent-bytes h g w (t .0)) post)
+step-whole h (call g (reconfigure t buffer x from to)) w ty (reconfigured answer new post) =
+    moved-whole h (g .params) t _ from to x buffer answer new w (lent-bytes h g w (ty .0)) post
+step-whole h (call g (decode buffer from)) w t (decoded answer out post) = w
+step-whole h (call g (delta d buffer to)) w t (differed answer out post) = w
+step-whole h (call g check) w t (checked verdict e post) = w
+step-whole h (call g (view node)) w t (viewed part e post) = w
+step-whole h (damage node bytes) w t (damaged {q = q} e) = damaged-whole q h node bytes w t
 
 run-whole : {h h′ : Held} {m m′ : Machine} {events : List Event} → Whole h → Run h m events h′ m′ → Whole h′
 run-whole w done = w
@@ -165,35 +176,36 @@ history-whole y =
 
 -- ---- from a whole state each event has a step, and only one
 
-pub step-exists : (h : Held) (e : Event) → Whole h → Typed e → (h′ : Held) × Step h e h′
-step-exists h (encode a x v l) w t = let m = encode-met a x v (lent h l) in (_, encoded (m .0) (m .1) (m .2))
-step-exists h (update a l d to) w t = let m = update-met a d to (lent h l) in (_, updated (m .0) (m .1) (m .2))
-step-exists h (repair a l from lost) w t =
-    let m = repair-met a from lost (lent h l) (lent-bytes h l w (t .0)) in (_, repaired (m .0) (m .1) (m .2))
-step-exists h (reconfigure a s l buffer x from to) w t =
-    let m = reconfigure-met a s (lent h l) from to x buffer (lent-bytes h l w (t .0)) (t .2) in (_, reconfigured (m .0) (m .1) (m .2))
-step-exists h (decode a l buffer from) w t =
-    let m = decode-met a (lent h l) from buffer (lent-bytes h l w (t .0)) in (h, decoded (m .0) (m .1) (m .2))
-step-exists h (delta a d buffer to) w t = let m = delta-met a d to buffer in (h, differed (m .0) (m .1) (m .2))
-step-exists h (check a l) w t = let m = check-met a (lent h l) (lent-bytes h l w t) in (h, checked (m .0) (m .1))
-step-exists h (view a l node) w t = let m = view-met a (lent h l) node in (h, viewed (m .0) (m .1))
-step-exists h (damage node bytes) w t = (_, damaged)
+pub step-exists : (h : Held) (e : Event) → Whole h → Typed e → (q : ℕ) × (h′ : Held) × Step h e q h′
+step-exists h (call g (encode x v)) w t = let m = encode-met (g .params) x v (lent h g) in (_, _, encoded (m .0) (m .1) (m .2))
+step-exists h (call g (update d to)) w t = let m = update-met (g .params) d to (lent h g) in (_, _, updated (m .0) (m .1) (m .2))
+step-exists h (call g (repair from lost)) w t =
+    let m = repair-met (g .params) from lost (lent h g) (lent-bytes h g w (t .0)) in (_, _, repaired (m .0) (m .1) (m .2))
+step-exists h (call g (reconfigure s buffer x from to)) w t =
+    let m = reconfigure-met (g .params) s (lent h g) from to x buffer (lent-bytes h g w (t .0)) (t .2) in (_, _, reconfigured (m .0) (m .1) (m .2))
+step-exists h (call g (decode buffer from)) w t =
+    let m = decode-met (g .params) (lent h g) from buffer (lent-bytes h g w (t .0)) in (_, h, decoded (m .0) (m .1) (m .2))
+step-exists h (call g (delta d buffer to)) w t = let m = delta-met (g .params) d to buffer in (_, h, differed (m .0) (m .1) (m .2))
+step-exists h (call g check) w t = let m = check-met (g .params) (lent h g) (lent-bytes h g w t) in (_, h, checked (m .0) refl (m .1))
+step-exists h (call g (view node)) w t = let m = view-met (g .params) (lent h g) node in (_, h, viewed (m .0) refl (m .1))
+step-exists h (damage node bytes) w t = (_, _, damaged refl)
 
-pub step-unique : (h : Held) {h′ h″ : Held} (e : Event) → Step h e h′ → Step h e h″ → h′ ≡ h″
-step-unique h (encode a x v l) (encoded answer new post) (encoded answer′ new′ post′) =
-    ap (wrote h l) (encode-once a x v (lent h l) answer answer′ new new′ post post′ .1)
-step-unique h (update a l d to) (updated answer new post) (updated answer′ new′ post′) =
-    ap (wrote h l) (update-once a d to (lent h l) answer answer′ new new′ post post′ .1)
-step-unique h (repair a l from lost) (repaired answer new post) (repaired answer′ new′ post′) =
-    ap (wrote h l) (repair-once a from lost (lent h l) answer answer′ new new′ post post′ .1)
-step-unique h (reconfigure a s l buffer x from to) (reconfigured answer new post) (reconfigured answer′ new′ post′) =
-    let e = reconfigure-once a s (lent h l) from to x buffer answer answer′ new new′ post post′ in
-    ap₂ (λ (q : ℕ) (c : List ℕ). moved q h a s c) (e .0) (e .1)
-step-unique h (decode a l buffer from) (decoded answer out post) (decoded answer′ out′ post′) = refl
-step-unique h (delta a d buffer to) (differed answer out post) (differed answer′ out′ post′) = refl
-step-unique h (check a l) (checked answer post) (checked answer′ post′) = refl
-step-unique h (view a l node) (viewed part post) (viewed part′ post′) = refl
-step-unique h (damage node bytes) damaged damaged = refl
+pub step-unique : (h : Held) {h′ h″ : Held} {q q′ : ℕ} (e : Event) → Step h e q h′ → Step h e q′ h″ → (q ≡ q′) × (h′ ≡ h″)
+step-unique h (call g (encode x v)) (encoded answer new post) (encoded answer′ new′ post′) =
+    let e = encode-once (g .params) x v (lent h g) answer answer′ new new′ post post′ in (e .0, ap (wrote h g) (e .1))
+step-unique h (call g (update d to)) (updated answer new post) (updated answer′ new′ post′) =
+    let e = update-once (g .params) d to (lent h g) answer answer′ new new′ post post′ in (e .0, ap (wrote h g) (e .1))
+step-unique h (call g (repair from lost)) (repaired answer new post) (repaired answer′ new′ post′) =
+    let e = repair-once (g .params) from lost (lent h g) answer answer′ new new′ post post′ in (e .0, ap (wrote h g) (e .1))
+step-unique h (call g (reconfigure s buffer x from to)) (reconfigured answer new post) (reconfigured answer′ new′ post′) =
+    let e = reconfigure-once (g .params) s (lent h g) from to x buffer answer answer′ new new′ post post′ in
+    (e .0, ap₂ (λ (q : ℕ) (c : List ℕ). moved q h (g .params) s c) (e .0) (e .1))
+step-unique h (call g (decode buffer from)) (decoded answer out post) (decoded answer′ out′ post′) = (post .number ∙ sym (post′ .number), refl)
+step-unique h (call g (delta d buffer to)) (differed answer out post) (differed answer′ out′ post′) = (post .number ∙ sym (post′ .number), refl)
+step-unique h (call g check) (checked verdict e post) (checked verdict′ e′ post′) =
+    (e ∙ post .0 .number ∙ sym (e′ ∙ post′ .0 .number), refl)
+step-unique h (call g (view node)) (viewed part e post) (viewed part′ e′ post′) = (e ∙ sym e′, refl)
+step-unique h (damage node bytes) (damaged e) (damaged e′) = (e ∙ sym e′, ap (λ (q : ℕ). damagedHeld q h node bytes) (e ∙ sym e′))
 
 -- After every list each accepted set of undamaged nodes has a reading.
 pub reading-exists : {events : List Event} {h : Held} {m : Machine} → History events h m → (from : ℕ) (buffer : List ℕ)

@@ -16,7 +16,6 @@ use Rattle.base.specs.Parts.{partOf, putBlock}
 use Rattle.base.proofs.Parts.{length-partOf, putBlock-here, putBlock-other, putBlock-length, row-ends}
 use Rattle.base.proofs.Seq.{cells-ext, cell-blocks, length-blocks}
 use Rattle.interpolation.proofs.Rows.{cell-take}
-use Rattle.gates.specs.Gates.{damageGate}
 use Rattle.gates.specs.Valid.{Valid}
 use Rattle.params.specs.declared.Params.{Params}
 use Rattle.params.specs.Params.{reshaped}
@@ -25,7 +24,7 @@ use Rattle.code.specs.Calls.{UpdatePost, RepairPost, DecodePost, ReconfigurePos
 use Rattle.blocks.specs.Bytes.{over}
 use Rattle.blocks.proofs.Laws.{over-same}
 use Rattle.ledger.specs.Ledger as ledger
-use Rattle.ledger.specs.Ledger.{Held, gate, Step, chosen, damagedWord, damagedHeld, updated, repaired, decoded, reconfigured, damaged}
+use Rattle.ledger.specs.Ledger.{Held, heldUnder, withCodeword, chosen, damagedWord, damagedHeld, Step, updated, repaired, decoded, reconfigured, damaged}
 use Rattle.ledger.proofs.Invariant.{moved-same, damaged-same}
 use Rattle.season_file.specs.File.{bytesOf}
 use Rattle.season_answers.specs.Answers.{answerOf}
@@ -38,18 +37,20 @@ use Rattle.season_file.specs.declared.DecodeFields.{DecodeFields}
 use Rattle.season_file.specs.declared.ReconfigureFields.{ReconfigureFields}
 use Rattle.season_run.specs.Season.{listed, Prints, heldIn}
 use Rattle.season_run.specs.Turning.{Ready, Effected}
-use Rattle.season_run.proofs.Events.{span-length, answer-is-gate}
+use Rattle.season_run.proofs.Events.{span-length, gate, answer-is-gate, answered}
 use Rattle.season_run.proofs.Fronts.{blocks-room, front-take, front-drop, front-length, over-front, part-is}
 
 -- an event that leaves the given record at the front
 fronted : (a a′ : Params) (input : List ℕ) (e : Event) (buffer new message : List ℕ) → a′ .n * a′ .b ≤ length buffer → length new ≡ a′ .n * a′ .b
-    → Prints (heldIn a buffer) e message → Step (heldIn a buffer) (listed a input e) (record { params = a′; codeword = new })
+    → Prints (heldIn a buffer) e message
+    → Step (heldIn a buffer) (listed (heldIn a buffer) input e) (answerOf a e) (heldUnder a′ (withCodeword new (heldIn a buffer)))
     → Effected a input e buffer a′ message (new ++ drop (a′ .n * a′ .b) buffer)
 fronted a a′ input e buffer new message fits full prints step =
     record {
       prints = prints;
       step =
-          subst (λ (l : List ℕ). Step (heldIn a buffer) (listed a input e) (record { params = a′; codeword = l }))
+          subst
+          (λ (l : List ℕ). Step (heldIn a buffer) (listed (heldIn a buffer) input e) (answerOf a e) (heldUnder a′ (withCodeword l (heldIn a buffer))))
           (sym (front-take (a′ .n * a′ .b) buffer new fits full)) step;
       length-is = front-length (a′ .n * a′ .b) buffer new fits full;
       rest = front-drop (a′ .n * a′ .b) buffer new fits full;
@@ -57,8 +58,13 @@ fronted a a′ input e buffer new message fits full prints step =
 
 -- one that leaves all as it was
 pub unmoved : (a : Params) (input : List ℕ) (e : Event) (buffer message : List ℕ) → Prints (heldIn a buffer) e message
-    → Step (heldIn a buffer) (listed a input e) (heldIn a buffer) → Effected a input e buffer a message buffer
+    → Step (heldIn a buffer) (listed (heldIn a buffer) input e) (answerOf a e) (heldIn a buffer) → Effected a input e buffer a message buffer
 unmoved a input e buffer message prints step = record { prints = prints; step = step; length-is = refl; rest = refl }
+
+-- the record at the front of a buffer has n·b bytes
+front-full : (a : Params) (buffer : List ℕ) → Valid a → length buffer ≡ 32768 → length (take (a .n * a .b) buffer) ≡ a .n * a .b
+front-full a buffer v room =
+    let nb : a .n * a .b ≤ 32768 = blocks-room a (a .n) v (omega arith) in length-take-le (a .n * a .b) buffer (omega arith)
 
 -- ---- change and rebuild
 
@@ -68,14 +74,16 @@ pub update-applied : (a : Params) (input : List ℕ) (f : UpdateFields) (buffer 
     → Effected a input (Update f) buffer a [] (new ++ drop (a .n * a .b) buffer)
 update-applied a input f buffer new answer h full post =
     fronted a a input (Update f) buffer new [] (omega (arith, blocks-room a (a .n) (h .valid) (omega arith), h .room)) full refl
+    (answered (heldIn a buffer) input (Update f) (front-full a buffer (h .valid) (h .room)) (h .inside) (h .counted)
     (updated answer new
-    (subst (λ (d : List ℕ). UpdatePost a d (f .to .0) (take (a .n * a .b) buffer) answer new) (part-is input (f .change)) post))
+    (subst (λ (d : List ℕ). UpdatePost a d (f .to .0) (take (a .n * a .b) buffer) answer new) (part-is input (f .change)) post)))
 
 pub repair-applied : (a : Params) (input : List ℕ) (f : RepairFields) (buffer new : List ℕ) (answer : ℕ) → Valid a → length buffer ≡ 32768
     → length new ≡ a .n * a .b → RepairPost a (f .from .0) (f .lost .0) (take (a .n * a .b) buffer) answer new
     → Effected a input (Repair f) buffer a [] (new ++ drop (a .n * a .b) buffer)
 repair-applied a input f buffer new answer v room full post =
-    fronted a a input (Repair f) buffer new [] (omega (arith, blocks-room a (a .n) v (omega arith))) full refl (repaired answer new post)
+    fronted a a input (Repair f) buffer new [] (omega (arith, blocks-room a (a .n) v (omega arith))) full refl
+    (answered (heldIn a buffer) input (Repair f) (front-full a buffer v room) tt tt (repaired answer new post))
 
 -- ---- damage
 
@@ -135,9 +143,12 @@ module _ (a : Params) (input : List ℕ) (f : DamageFields) (buffer : List ℕ) 
       record {
         prints = refl;
         step =
-            subst₂ (λ (x l : List ℕ). Step (heldIn a buffer) (ledger.damage (f .node .0) x) (record { params = a; codeword = l })) same
+            subst₂
+            (λ (x l : List ℕ). Step (heldIn a buffer) (ledger.damage (f .node .0) x) (answerOf a (Damage f)) (withCodeword l (heldIn a buffer))) same
             (sym (damaged-word new full))
-            (subst (λ (q : ℕ). Step (heldIn a buffer) (ledger.damage (f .node .0) new) (damagedHeld q (heldIn a buffer) (f .node .0) new)) z damaged);
+            (subst
+            (λ (q : ℕ). Step (heldIn a buffer) (ledger.damage (f .node .0) new) (answerOf a (Damage f)) (damagedHeld q (heldIn a buffer) (f .node .0) new))
+            z (damaged refl));
         length-is = putBlock-length (a .b) (a .n) j buffer new below fits full;
         rest = behind new full;
       }
@@ -150,9 +161,8 @@ pub decode-applied : (a : Params) (input : List ℕ) (f : DecodeFields) (buffer 
     → Effected a input (Decode f) buffer a (take (a .k * a .b) (out ++ drop (a .k * a .b) room)) buffer
 unfolding answerOf
 decode-applied a input f buffer room out answer v hb hr z full post =
-    let nb : a .n * a .b ≤ 32768 = blocks-room a (a .n) v (omega arith) in
     let kb : a .k * a .b ≤ 32768 = blocks-room a (a .k) v (omega arith) in
-    let lb = length-take-le (a .n * a .b) buffer (omega arith) in
+    let lb = front-full a buffer v hb in
     let lr = length-take-le (a .k * a .b) room (omega arith) in
     let lz = length-replicate {A = ℕ} (a .k * a .b) 0 in
     let zero : answer ≡ 0 = post .number ∙ cc in
@@ -160,7 +170,7 @@ decode-applied a input f buffer room out answer v hb hr z full post =
     unmoved a input (Decode f) buffer _
     (subst (λ (m : List ℕ). Prints (heldIn a buffer) (Decode f) m) (sym (front-take (a .k * a .b) room out (omega arith) full))
     (record { served = λ _. d; refused = λ ne. absurd (ne z) }))
-    (decoded 0 out (record { number = cc; served = λ _. d; refused = λ ne. absurd (ne refl) }))
+    (answered (heldIn a buffer) input (Decode f) lb tt tt (decoded 0 out (record { number = cc; served = λ _. d; refused = λ ne. absurd (ne refl) })))
 
 -- ---- rearrangement
 
@@ -177,9 +187,8 @@ module _ (a : Params) (input : List ℕ) (f : ReconfigureFields) (z : answerOf a
       (over buffer (take (f .shape .n * a .b) (new ++ drop (f .shape .n * a .b) room)))
   unfolding answerOf
   reconfigure-applied buffer room new answer h hr full post =
-      let nb : a .n * a .b ≤ 32768 = blocks-room a (a .n) (h .valid) (omega arith) in
       let nb′ : f .shape .n * a .b ≤ 32768 = blocks-room (reshaped a (f .shape)) (f .shape .n) new-valid (omega arith) in
-      let lb = length-take-le (a .n * a .b) buffer (omega (arith, h .room)) in
+      let lb = front-full a buffer (h .valid) (h .room) in
       let lr = length-take-le (f .shape .n * a .b) room (omega arith) in
       let lz = length-replicate {A = ℕ} (f .shape .n * a .b) 0 in
       let pi = part-is input (f .message) in
@@ -191,20 +200,21 @@ module _ (a : Params) (input : List ℕ) (f : ReconfigureFields) (z : answerOf a
       (sym
       (ap (over buffer) (front-take (f .shape .n * a .b) room new (omega arith) full) ∙ over-front (f .shape .n * a .b) buffer new (omega (arith, h .room)) full))
       (fronted a (reshaped a (f .shape)) input (Reconfigure f) buffer new [] (omega (arith, h .room)) full refl
-      (reconfigured 0 new (record { number = cc; served = λ _. d; refused = λ ne. absurd (ne refl) })))
+      (answered (heldIn a buffer) input (Reconfigure f) lb (h .inside) (h .counted)
+      (reconfigured 0 new (record { number = cc; served = λ _. d; refused = λ ne. absurd (ne refl) }))))
 
 -- ---- a refused event
 
 -- its call would leave all as it was
-pub refused-step : (h : Held) (input : List ℕ) (e : Event) → (gate h (listed (h .params) input e) ≡ 0 → ⊥) → Step h (listed (h .params) input e) h
-refused-step h input (Update f) ne = updated _ _ (record { number = refl; served = λ z. absurd (ne z); refused = λ _. refl })
-refused-step h input (Repair f) ne = repaired _ _ (record { number = refl; served = λ z. absurd (ne z); refused = λ _. refl })
-refused-step h input (Damage f) ne =
-    subst (Step h (listed (h .params) input (Damage f))) (damaged-same (damageGate (h .params .n) (f .node .0)) h (f .node .0) _ ne) damaged
-refused-step h input (Decode f) ne = decoded _ _ (record { number = refl; served = λ z. absurd (ne z); refused = λ _. refl })
-refused-step h input (Reconfigure f) ne =
-    subst (Step h (listed (h .params) input (Reconfigure f))) (moved-same _ h (h .params) (f .shape) _ ne)
-    (reconfigured _ _ (record { number = refl; served = λ z. absurd (ne z); refused = λ _. refl }))
+refused-step : (h : Held) (input : List ℕ) (e : Event) (q : ℕ) → q ≡ gate h input e → (q ≡ 0 → ⊥) → Step h (listed h input e) q h
+refused-step h input (Update f) q g ne = updated q _ (record { number = g; served = λ z. absurd (ne z); refused = λ _. refl })
+refused-step h input (Repair f) q g ne = repaired q _ (record { number = g; served = λ z. absurd (ne z); refused = λ _. refl })
+refused-step h input (Damage f) q g ne =
+    subst (Step h (listed h input (Damage f)) q) (damaged-same q h (f .node .0) (bytesOf input (f .block)) ne) (damaged g)
+refused-step h input (Decode f) q g ne = decoded q _ (record { number = g; served = λ z. absurd (ne z); refused = λ _. refl })
+refused-step h input (Reconfigure f) q g ne =
+    subst (Step h (listed h input (Reconfigure f)) q) (moved-same q h (h .params) (f .shape) _ ne)
+    (reconfigured q _ (record { number = g; served = λ z. absurd (ne z); refused = λ _. refl }))
 
 refused-prints : (h : Held) (e : Event) → (answerOf (h .params) e ≡ 0 → ⊥) → Prints h e []
 refused-prints h (Update f) ne = refl
@@ -216,6 +226,5 @@ refused-prints h (Reconfigure f) ne = refl
 pub refused-applied : (a : Params) (input : List ℕ) (e : Event) (buffer : List ℕ) → Ready a input e buffer → (answerOf a e ≡ 0 → ⊥)
     → Effected a input e buffer a [] buffer
 refused-applied a input e buffer h ne =
-    let nb : a .n * a .b ≤ 32768 = blocks-room a (a .n) (h .valid) (omega arith) in
-    let g = answer-is-gate (heldIn a buffer) input e (length-take-le (a .n * a .b) buffer (omega (arith, h .room))) (h .inside) (h .counted) in
-    unmoved a input e buffer [] (refused-prints (heldIn a buffer) e ne) (refused-step (heldIn a buffer) input e (λ z. ne (g ∙ z)))
+    let g = answer-is-gate (heldIn a buffer) input e (front-full a buffer (h .valid) (h .room)) (h .inside) (h .counted) in
+    unmoved a input e buffer [] (refused-prints (heldIn a buffer) e ne) (refused-step (heldIn a buffer) input e (answerOf a e) g ne)

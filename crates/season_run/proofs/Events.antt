@@ -1,6 +1,6 @@
 -- What the file's definitions say of an event that was found: its blocks stand within the input, its bytes are bytes and its sets have 32 bits, and its answer is
 -- the number of the list's event. By cases on its kind. Assumes nothing.
-use mathlib.Core.Path.{_≡_, refl, _∙_, subst}
+use mathlib.Core.Path.{_≡_, refl, sym, _∙_, subst}
 use mathlib.Core.Bool.{Bool, true, false, cond as choose}
 use mathlib.Core.List.{List}
 use Prim.Native.Nat.{ℕ, _+_, _*_, _^_, _≤_, _<_}
@@ -13,7 +13,8 @@ use Rattle.base.proofs.Seq.{tabulate-zeros}
 use Rattle.field.specs.Field.{Bytes}
 use Rattle.interpolation.proofs.Rows.{bytes-tabulate, bytes-take, bytes-drop}
 use Rattle.params.specs.declared.Params.{Params}
-use Rattle.ledger.specs.Ledger.{Held, Typed, gate}
+use Rattle.gates.specs.Gates.{updateGate, repairGate, damageGate, decodeGate, reconfigureGate}
+use Rattle.ledger.specs.Ledger.{Held, Step, updated, repaired, reconfigured, decoded, damaged, Typed}
 use Rattle.season_file.specs.File.{numberAt, choiceAt, bytesOf, eventsCountAt, openingOf, eventAt, endOf, unknown, itemAt}
 use Rattle.season_answers.specs.Answers.{answerOf}
 use Rattle.season_file.specs.declared.Span.{Span}
@@ -123,16 +124,35 @@ found-good a input at f e =
 
 -- ---- the list's event
 
-pub typed : (a : Params) (input : List ℕ) (e : Event) → Bytes input → Good a input e → Typed (listed a input e)
-typed a input (Update f) hb g = (tt, span-bytes input (f .change) hb, g .small hb)
-typed a input (Repair f) hb g = (tt, g .small hb .0, g .small hb .1)
-typed a input (Damage f) hb g = span-bytes input (f .block) hb
-typed a input (Decode f) hb g = (tt, bytes-zeros (a .k * a .b), g .small hb)
-typed a input (Reconfigure f) hb g = (tt, bytes-zeros (f .shape .n * a .b), span-bytes input (f .message) hb, g .small hb .0, g .small hb .1)
+pub typed : (h : Held) (input : List ℕ) (e : Event) → Bytes input → Good (h .params) input e → Typed (listed h input e)
+typed h input (Update f) hb g = (tt, span-bytes input (f .change) hb, g .small hb)
+typed h input (Repair f) hb g = (tt, g .small hb .0, g .small hb .1)
+typed h input (Damage f) hb g = span-bytes input (f .block) hb
+typed h input (Decode f) hb g = (tt, bytes-zeros (h .params .k * h .params .b), g .small hb)
+typed h input (Reconfigure f) hb g = (tt, bytes-zeros (f .shape .n * h .params .b), span-bytes input (f .message) hb, g .small hb .0, g .small hb .1)
 
--- The answer that an event prints is its number in the list, where the record in force has n·b bytes.
+-- the gate that its call's post-condition cites, on the lengths of what it is lent
+abbrev pub gate : Held → List ℕ → Event → ℕ
+gate h input (Update f) = updateGate (h .params) (length (h .codeword)) (length (bytesOf input (f .change))) (f .to .0)
+gate h input (Repair f) = repairGate (h .params) (length (h .codeword)) (f .from .0) (f .lost .0)
+gate h input (Damage f) = damageGate (h .params .n) (f .node .0)
+gate h input (Decode f) =
+    decodeGate (h .params) (length (h .codeword)) (length (replicate {A = ℕ} (h .params .k * h .params .b) 0)) (f .from .0)
+gate h input (Reconfigure f) =
+    reconfigureGate (h .params) (f .shape) (length (h .codeword)) (length (replicate {A = ℕ} (f .shape .n * h .params .b) 0)) (length (bytesOf input (f .message)))
+    (f .from .0) (f .to .0)
+
+-- Every step of it answers that number, ..
+step-answer : (h : Held) (input : List ℕ) (e : Event) {q : ℕ} {h′ : Held} → Step h (listed h input e) q h′ → q ≡ gate h input e
+step-answer h input (Update f) (updated answer new post) = post .number
+step-answer h input (Repair f) (repaired answer new post) = post .number
+step-answer h input (Damage f) (damaged e) = e
+step-answer h input (Decode f) (decoded answer out post) = post .number
+step-answer h input (Reconfigure f) (reconfigured answer new post) = post .number
+
+-- .. which is the answer that the event prints, where the record in force has n·b bytes.
 pub answer-is-gate : (h : Held) (input : List ℕ) (e : Event) → length (h .codeword) ≡ h .params .n * h .params .b → Inside input e → Counted (h .params) e
-    → answerOf (h .params) e ≡ gate h (listed (h .params) input e)
+    → answerOf (h .params) e ≡ gate h input e
 unfolding answerOf
 answer-is-gate h input (Update f) l i g = let s = span-length input (f .change) i ∙ g in cc
 answer-is-gate h input (Repair f) l i g = cc
@@ -141,3 +161,9 @@ answer-is-gate h input (Decode f) l i g = let r = length-replicate {A = ℕ} (h 
 answer-is-gate h input (Reconfigure f) l i g =
     let r = length-replicate {A = ℕ} (f .shape .n * h .params .b) 0 in
     let s = span-length input (f .message) i ∙ g in cc
+
+-- So a step of it answers what is printed.
+pub answered : (h : Held) (input : List ℕ) (e : Event) {q : ℕ} {h′ : Held} → length (h .codeword) ≡ h .params .n * h .params .b → Inside input e
+    → Counted (h .params) e → Step h (listed h input e) q h′ → Step h (listed h input e) (answerOf (h .params) e) h′
+answered h input e {h′ = h′} l i c st =
+    subst (λ (q : ℕ). Step h (listed h input e) q h′) (step-answer h input e st ∙ sym (answer-is-gate h input e l i c)) st

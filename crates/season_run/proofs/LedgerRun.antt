@@ -7,8 +7,9 @@ use Prim.Native.Nat.{ℕ, suc, _*_}
 use native.Mathlib.Omega.{arith}
 use lib.ListN.{replicate}
 use Rattle.field.specs.Field.{Bytes}
-use Rattle.ledger.specs.Ledger.{Held, Machine, Step, gate, stepped, Undamaged, Accepted, Allowed, Typed, Run, done, more, History}
+use Rattle.ledger.specs.Ledger.{Held, Machine, Step, stepped, Undamaged, Allowed, Typed, Run, done, more, History}
 use Rattle.ledger.specs.Ledger as ledger
+use Rattle.ledger.proofs.Invariant.{given-in-force}
 use Rattle.ledger.proofs.Whole.{Whole, history-whole}
 use Rattle.ledger.proofs.Demand3.{reading-is-ledger}
 use Rattle.season_file.specs.File.{itemAt}
@@ -22,18 +23,18 @@ use Rattle.season_file.specs.declared.Item.the-variants as item
 use Rattle.season_file.specs.declared.Opening.the-variants as opening
 use Rattle.season_run.specs.Season.{listed, Prints, Tried, Place, Outcome, on, Goes}
 use Rattle.season_run.specs.Season as season
-use Rattle.season_run.specs.Ledgers.{listedAt, Reached, opened, tried, FromUndamaged, ReadsUndamaged}
+use Rattle.season_run.specs.Ledgers.{listedAt, answerAt, Reached, opened, tried, FromUndamaged, ReadsUndamaged}
 use Rattle.season_run.proofs.Output.{opens-history, opens-whole, goes-whole}
 use Rattle.season_run.proofs.Events.{found-good, typed, answer-is-gate}
 
 -- a list with one event more
-run-snoc : {h h′ h″ : Held} {m m′ : Machine} {es : List ledger.Event} (e : ledger.Event) → Run h m es h′ m′ → Typed e
-    → (Accepted h′ e → Allowed h′ m′ e) → Step h′ e h″ → Run h m (es ++ e ∷ []) h″ (stepped (gate h′ e) m′ e)
+run-snoc : {h h′ h″ : Held} {m m′ : Machine} {es : List ledger.Event} {q : ℕ} (e : ledger.Event) → Run h m es h′ m′ → Typed e
+    → (q ≡ 0 → Allowed h′ m′ e) → Step h′ e q h″ → Run h m (es ++ e ∷ []) h″ (stepped q m′ e)
 run-snoc e done ty al st = more ty al st done
 run-snoc e (more ty′ al′ st′ r) ty al st = more ty′ al′ st′ (run-snoc e r ty al st)
 
-history-snoc : {h h′ : Held} {m : Machine} {es : List ledger.Event} (e : ledger.Event) → History es h m → Typed e
-    → (Accepted h e → Allowed h m e) → Step h e h′ → History (es ++ e ∷ []) h′ (stepped (gate h e) m e)
+history-snoc : {h h′ : Held} {m : Machine} {es : List ledger.Event} {q : ℕ} (e : ledger.Event) → History es h m → Typed e
+    → (q ≡ 0 → Allowed h m e) → Step h e q h′ → History (es ++ e ∷ []) h′ (stepped q m e)
 history-snoc e y ty al st =
     record {
       params = y .params;
@@ -46,20 +47,19 @@ history-snoc e y ty al st =
       run = run-snoc e (y .run) ty al st;
     }
 
--- an event of the file is given the parameters and the record in force
-allowed : (h : Held) (m : Machine) (input : List ℕ) (e : Event) → FromUndamaged m (listed (h .params) input e)
-    → Allowed h m (listed (h .params) input e)
-allowed h m input (Update f) u = (refl, refl)
-allowed h m input (Repair f) u = (refl, refl, u)
+-- an event of the file is given what is in force
+allowed : (h : Held) (m : Machine) (input : List ℕ) (e : Event) → FromUndamaged m (listed h input e) → Allowed h m (listed h input e)
+allowed h m input (Update f) u = given-in-force h
+allowed h m input (Repair f) u = (given-in-force h, u)
 allowed h m input (Damage f) u = tt
-allowed h m input (Decode f) u = (refl, refl)
-allowed h m input (Reconfigure f) u = (refl, refl, u)
+allowed h m input (Decode f) u = given-in-force h
+allowed h m input (Reconfigure f) u = (given-in-force h, u)
 
 module _ (input : List ℕ) (bytes : Bytes input) where
   step-of : {line : List ℕ} {here here′ : Place} (f : Found) → itemAt (here .stands .params) input (here .at) ≡ item.Whole f
-      → Goes input here line (on here′) → Step (here .stands) (listedAt input here f) (here′ .stands)
+      → Goes input here line (on here′) → Step (here .stands) (listedAt input here f) (answerAt here f) (here′ .stands)
   step-of {here = here} f i (season.tried left g line h′ z i′ t) =
-      let e : g ≡ f = cc in subst (λ (f : Found). Step (here .stands) (listedAt input here f) h′) e (t .step)
+      let e : g ≡ f = cc in subst (λ (f : Found). Step (here .stands) (listedAt input here f) (answerAt here f) h′) e (t .step)
 
   -- Wherever a run gets, valid parameters are in force and the record has n·b bytes.
   pub reached-whole : {events : List ledger.Event} {here : Place} {m : Machine} → Reached input events here m → Whole (here .stands)
@@ -71,9 +71,9 @@ module _ (input : List ℕ) (bytes : Bytes input) where
       → History events (here .stands) m
   season-history (opened hd i o) u = opens-history input bytes hd i o
   season-history (tried {here = here} {m = m} f r i g) u =
-      let a = here .stands .params in
-      history-snoc (listedAt input here f) (season-history r (u .0)) (typed a input (f .event) bytes (found-good a input (here .at) f i))
-      (λ z. allowed (here .stands) m input (f .event) (u .1 z)) (step-of f i g)
+      let h = here .stands in
+      history-snoc (listedAt input here f) (season-history r (u .0)) (typed h input (f .event) bytes (found-good (h .params) input (here .at) f i))
+      (λ z. allowed h m input (f .event) (u .1 z)) (step-of f i g)
 
   -- If moreover the next event is an accepted reading through undamaged nodes, it prints the ledger.
   module _ {events : List ledger.Event} {here : Place} {m : Machine} (r : Reached input events here m) (u : ReadsUndamaged r) (f : DecodeFields) (after : ℕ)

@@ -2,7 +2,6 @@
 -- and the count of events that are left falls with each turn. Every run keeps valid parameters in force and a record of n·b bytes. Assumes nothing.
 use mathlib.Core.Path.{_≡_, refl, sym, ap, ap₂, _∙_, subst}
 use mathlib.Core.Logic.{⊎-elim}
-use mathlib.Core.Bool.{false}
 use mathlib.Core.List.{List, [], _++_}
 use Prim.Native.Nat.{ℕ, zero, suc, _*_}
 use native.Mathlib.Omega.{arith}
@@ -17,8 +16,7 @@ use Rattle.code.specs.Calls.{Decoded, EncodePost}
 use Rattle.code.proofs.Pairs.{from-reads, pair-exists}
 use Rattle.code.proofs.Determined.{encode-met, encode-once}
 use Rattle.code.proofs.Theorems.{decode-message}
-use Rattle.params.specs.declared.Params.{Params}
-use Rattle.ledger.specs.Ledger.{Held, History}
+use Rattle.ledger.specs.Ledger.{Held, begun, History}
 use Rattle.ledger.specs.Ledger as ledger
 use Rattle.ledger.proofs.Whole.{Whole, step-whole, history-whole, step-exists, step-unique}
 use Rattle.season_file.specs.File.{bytesOf, openingOf, itemAt, kindOf}
@@ -33,8 +31,9 @@ use Rattle.season_file.specs.declared.Item.{Item}
 use Rattle.season_file.specs.declared.Item.the-variants as item
 use Rattle.season_file.specs.declared.Opening.{Opening}
 use Rattle.season_file.specs.declared.Opening.the-variants as opening
-use Rattle.season_run.specs.Season.{listed, Prints, Tried, Place, Outcome, ended, on, Goes, over, leftover, faulty, tried, setUpAnswer, Opens, refused, opened, Runs, done, turn, Season, season, FileOutput}
-use Rattle.season_run.proofs.Events.{span-bytes, bytes-zeros, found-good, typed}
+use Rattle.season_run.specs.Season.{listed, Prints, Tried, Place, Outcome, ended, on, Goes, over, leftover, faulty, tried, setUpAnswer, Opens, refused}
+use Rattle.season_run.specs.Season.{opened, Runs, done, turn, Season, season, FileOutput}
+use Rattle.season_run.proofs.Events.{span-bytes, bytes-zeros, found-good, typed, answered}
 
 -- ---- one message
 
@@ -85,7 +84,7 @@ module _ (input : List ℕ) where
   tried-once {h = h} {number = number} {e = e} t t′ = (
     t .line-is ∙ ap (lineOf number (kindOf e) (answerOf (h .params) e)) (prints-once h e (t .message) (t′ .message) (t .prints) (t′ .prints))
         ∙ sym (t′ .line-is),
-    step-unique h (listed (h .params) input e) (t .step) (t′ .step),
+    step-unique h (listed h input e) (t .step) (t′ .step) .1,
   )
 
   goes-once : {here : Place} {line line′ : List ℕ} {outcome outcome′ : Outcome} → Goes input here line outcome → Goes input here line′ outcome′
@@ -160,13 +159,10 @@ module _ (input : List ℕ) (bytes : Bytes input) where
 
   -- the opening set-up is that of a list
   pub opens-history : {line : List ℕ} {here : Place} (hd : Header) → openingOf input ≡ opening.Whole hd → Opens input line (on here)
-      → History [] (here .stands) (record { params = hd .params; ledger = bytesOf input (hd .message); damaged = λ i. false })
+      → History [] (here .stands) (ledger.opened (hd .params) (bytesOf input (hd .message)))
   opens-history hd i (opened hd′ codeword i′ post) =
       let e : hd′ ≡ hd = cc in
-      subst
-      (λ (g : Header).
-      History [] (record { params = hd′ .params; codeword = codeword }) (record { params = g .params; ledger = bytesOf input (g .message); damaged = λ i. false }))
-      e
+      subst (λ (g : Header). History [] (begun (hd′ .params) codeword) (ledger.opened (g .params) (bytesOf input (g .message)))) e
       (record {
         params = hd′ .params;
         message = bytesOf input (hd′ .message);
@@ -183,8 +179,8 @@ module _ (input : List ℕ) (bytes : Bytes input) where
 
   pub goes-whole : {line : List ℕ} {here here′ : Place} → Whole (here .stands) → Goes input here line (on here′) → Whole (here′ .stands)
   goes-whole {here = here} w (tried more f line h′ z i t) =
-      let a = here .stands .params in
-      step-whole (here .stands) (listed a input (f .event)) w (typed a input (f .event) bytes (found-good a input (here .at) f i)) (t .step)
+      let h = here .stands in
+      step-whole h (listed h input (f .event)) w (typed h input (f .event) bytes (found-good (h .params) input (here .at) f i)) (t .step)
 
   -- ---- there is an output
 
@@ -193,17 +189,17 @@ module _ (input : List ℕ) (bytes : Bytes input) where
   RunsWith n = (here : Place) → here .left ≡ n → Whole (here .stands) → (rest : List ℕ) × Runs input (on here) rest
 
   runs-more : (n : ℕ) → RunsWith n → RunsWith (suc n)
-  runs-more n again here z w = go (itemAt a input (here .at)) refl
+  runs-more n again here z w = go (itemAt (here .stands .params) input (here .at)) refl
     where
-      a : Params
-      a = here .stands .params
-
-      go : (i : Item) → itemAt a input (here .at) ≡ i → (rest : List ℕ) × Runs input (on here) rest
+      go : (i : Item) → itemAt (here .stands .params) input (here .at) ≡ i → (rest : List ℕ) × Runs input (on here) rest
       go (item.Faulty f) i = (_, turn (faulty n f z i) done)
       go (item.Whole f) i =
-          let p = prints-exists (here .stands) (f .event) (w .bytes) in
-          let s = step-exists (here .stands) (listed a input (f .event)) w (typed a input (f .event) bytes (found-good a input (here .at) f i)) in
-          let g = tried n f _ (s .0) z i (record { message = p .0; prints = p .1; line-is = refl; step = s .1 }) in
+          let h = here .stands in
+          let good = found-good (h .params) input (here .at) f i in
+          let p = prints-exists h (f .event) (w .bytes) in
+          let s = step-exists h (listed h input (f .event)) w (typed h input (f .event) bytes good) in
+          let st = answered h input (f .event) (w .length-is) (good .inside) (good .counted) (s .2) in
+          let g = tried n f _ (s .1) z i (record { message = p .0; prints = p .1; line-is = refl; step = st }) in
           (_, turn g (again _ refl (goes-whole w g) .1))
 
   pub runs-exist : (n : ℕ) → RunsWith n

@@ -11,7 +11,7 @@ use Rattle.base.proofs.Cases.{eq-or}
 use Rattle.field.specs.Field.{Bytes}
 use Rattle.gates.specs.Valid.{Valid}
 use Rattle.interpolation.proofs.Rows.{bytes-take}
-use Rattle.ledger.specs.Ledger.{Held}
+use Rattle.ledger.specs.Ledger.{Held, withCodeword}
 use Rattle.ledger.proofs.Whole.{Whole}
 use Rattle.season_lines.specs.Lines.{lineOf, Wrote}
 use Rattle.season_answers.specs.Answers.{answerOf}
@@ -19,7 +19,8 @@ use Rattle.season_file.specs.declared.Event.{Event}
 use Rattle.season_file.specs.declared.Event.the-variants.{Update, Repair, Damage, Decode, Reconfigure}
 use Rattle.season_lines.proofs.Decimal.{decimal-short}
 use Rattle.season_lines.proofs.Hexadecimal.{message-short}
-use Rattle.season_run.specs.Season.{Prints, Place, Outcome, ended, on, Goes, over, leftover, faulty, tried, Opens, refused, opened, Runs, done, turn, Season, season, FileOutput, heldIn, placeOf, outcomeOf, Room, Turned, Standing}
+use Rattle.season_run.specs.Season.{Prints, Place, Outcome, ended, on, Goes, over, leftover, faulty, tried, Opens, refused, opened, Runs, done, turn}
+use Rattle.season_run.specs.Season.{Season, season, FileOutput, heldIn, placeOf, outcomeOf, Room, Turned, Standing}
 use Rattle.season_run.specs.Program.{Calls, began, turned, Ran}
 use Rattle.season_run.specs.declared.State.{State}
 use Rattle.season_run.specs.declared.Next.{Next}
@@ -101,7 +102,7 @@ laid Result text (on here) buffer line room r w =
       record {
         text = text;
         result =
-            subst (λ (l : List ℕ). Result text (on (record { stands = record { params = a; codeword = l }; number = here .number; left = here .left; at = here .at })))
+            subst (λ (l : List ℕ). Result text (on (record { stands = withCodeword l (here .stands); number = here .number; left = here .left; at = here .at })))
             (sym (front-take (a .n * a .b) buffer new fits (w .length-is))) r;
         wrote = record { count = refl; bytes = refl };
         length-is = front-length (a .n * a .b) buffer new fits (w .length-is);

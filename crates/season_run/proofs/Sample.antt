@@ -16,7 +16,7 @@ use Rattle.params.specs.Params.{slackParts}
 use Rattle.gates.specs.Gates.{encodeGate, decodeGate, updateGate, damageGate}
 use Rattle.params.specs.declared.Params.{Params}
 use Rattle.code.specs.Code.{point, block}
-use Rattle.ledger.specs.Ledger.{Held, damagedWord, updated, damaged, decoded}
+use Rattle.ledger.specs.Ledger.{Held, begun, damagedWord, updated, damaged, decoded}
 use Rattle.ledger.proofs.Computed.{encode-by, decode-by, update-by}
 use Rattle.season_file.specs.File.{numberAt, choiceAt, openingOf, itemAt}
 use Rattle.season_lines.specs.Lines.{digitsBefore, decimal, hexDigit, hex, messageField, lineOf}
@@ -49,7 +49,7 @@ abbrev small : Params
 small = record { k = 1; r = 2; w = 2; n = 3; b = 1 }
 
 abbrev stands : List ℕ → Held
-stands codeword = record { params = small; codeword = codeword }
+stands = begun small
 
 -- the events
 abbrev change : ℕ → ℕ → ℕ → Found
@@ -66,9 +66,12 @@ ends : length input ≤ 45
 ends = omega arith
 
 pub sample : Season input output
-unfolding openingOf itemAt numberAt choiceAt lineOf decimal digitsBefore hexDigit hex messageField answerOf encodeGate decodeGate updateGate damageGate firstNo slackParts has size ones within disjoint count cell blocks tabulate block point evaluate sum add mul pow damagedWord
+unfolding openingOf itemAt numberAt choiceAt lineOf decimal digitsBefore hexDigit hex messageField answerOf encodeGate decodeGate updateGate damageGate firstNo slackParts
+    has size ones within disjoint count cell blocks tabulate block point evaluate sum add mul pow damagedWord
 sample =
-    season (opened (record { params = small; message = record { at = 14; count = 1 }; slack = record { at = 17; count = 1 }; events = 5; at = 20 }) (0x06 ∷ 0x0a ∷ 0x0c ∷ []) refl (encode-by _ _ _ _ tt _ refl)) (
+    season
+    (opened (record { params = small; message = record { at = 14; count = 1 }; slack = record { at = 17; count = 1 }; events = 5; at = 20 })
+    (0x06 ∷ 0x0a ∷ 0x0c ∷ []) refl (encode-by _ _ _ _ tt _ refl)) (
     turn
     (tried 4 (change 3 25 26) _ (stands (0x00 ∷ 0x0c ∷ 0x0c ∷ [])) refl refl
     (record { message = []; prints = refl; line-is = refl; step = updated 0 (0x00 ∷ 0x0c ∷ 0x0c ∷ []) (update-by _ _ _ _ _ (0x03 ∷ []) tt) })) (
@@ -84,7 +87,7 @@ sample =
     (tried 2 (change 5 36 37) _ (stands (0x03 ∷ 0x0c ∷ 0x0f ∷ [])) refl refl
     (record { message = []; prints = refl; line-is = refl; step = updated 0 (0x03 ∷ 0x0c ∷ 0x0f ∷ []) (update-by _ _ _ _ _ (0x01 ∷ []) tt) })) (
     turn
-    (tried 1 blow _ (stands (0xff ∷ 0x0c ∷ 0x0f ∷ [])) refl refl (record { message = []; prints = refl; line-is = refl; step = damaged })) (
+    (tried 1 blow _ (stands (0xff ∷ 0x0c ∷ 0x0f ∷ [])) refl refl (record { message = []; prints = refl; line-is = refl; step = damaged refl })) (
     turn
     (tried 0 (reading 6 45) _ (stands (0xff ∷ 0x0c ∷ 0x0f ∷ [])) refl refl
     (record {

@@ -15,6 +15,7 @@ use Rattle.params.specs.declared.Params.{Params}
 use Rattle.base.proofs.Questions.{first, stopped}
 use Rattle.gates.proofs.Valid.{valid-of, encode-accepted}
 use Rattle.code.specs.Calls.{EncodePost}
+use Rattle.ledger.specs.Ledger.{begun}
 use Rattle.season_file.specs.File.{bytesOf, openingOf, itemAt, kindOf}
 use Rattle.season_lines.specs.Lines.{lineOf, Wrote, LinePost}
 use Rattle.season_answers.specs.Answers.{answerOf}
@@ -106,7 +107,7 @@ module _ (input : List ℕ) (hd : Header) (whole : openingOf input ≡ opening.W
         (record {
           text = lineOf 0 0 0 [];
           result =
-              subst (λ (l : List ℕ). Opens input (lineOf 0 0 0 []) (on (record { stands = record { params = a; codeword = l }; number = 1; left = hd .events; at = hd .at })))
+              subst (λ (l : List ℕ). Opens input (lineOf 0 0 0 []) (on (record { stands = begun a l; number = 1; left = hd .events; at = hd .at })))
               (sym (front-take (a .n * a .b) buffer new fits f))
               (opened hd new whole
               (record {

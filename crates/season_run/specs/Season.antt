@@ -8,7 +8,7 @@ use Rattle.gates.specs.Gates.{encodeGate}
 use Rattle.gates.specs.Valid.{Valid}
 use Rattle.params.specs.declared.Params.{Params}
 use Rattle.code.specs.Calls.{EncodePost, Decoded}
-use Rattle.ledger.specs.Ledger.{Held, Step, held, update, repair, damage, decode, reconfigure}
+use Rattle.ledger.specs.Ledger.{Held, begun, Step, update, repair, decode, reconfigure, call, damage, inForce}
 use Rattle.ledger.specs.Ledger as ledger
 use Rattle.season_file.specs.File.{bytesOf, openingOf, itemAt, kindOf}
 use Rattle.season_lines.specs.Lines.{lineOf, Wrote}
@@ -27,15 +27,15 @@ use Rattle.season_run.specs.declared.Turn.{Turn}
 
 -- ---- one event
 
--- The file's event as one of a list of the ledger machine: it is given the parameters and the record in force, its blocks are the input's bytes, and a buffer
--- that a call fills held zeros.
-abbrev pub listed : Params → List ℕ → Event → ledger.Event
-listed a input (Update f) = update a held (bytesOf input (f .change)) (f .to .0)
-listed a input (Repair f) = repair a held (f .from .0) (f .lost .0)
-listed a input (Damage f) = damage (f .node .0) (bytesOf input (f .block))
-listed a input (Decode f) = decode a held (replicate (a .k * a .b) 0) (f .from .0)
-listed a input (Reconfigure f) =
-    reconfigure a (f .shape) held (replicate (f .shape .n * a .b) 0) (bytesOf input (f .message)) (f .from .0) (f .to .0)
+-- The file's event as one of a list of the ledger machine: a call is given what is in force, its blocks are the input's bytes, and a buffer that it fills held
+-- zeros.
+abbrev pub listed : Held → List ℕ → Event → ledger.Event
+listed h input (Update f) = call (inForce h) (update (bytesOf input (f .change)) (f .to .0))
+listed h input (Repair f) = call (inForce h) (repair (f .from .0) (f .lost .0))
+listed h input (Damage f) = damage (f .node .0) (bytesOf input (f .block))
+listed h input (Decode f) = call (inForce h) (decode (replicate (h .params .k * h .params .b) 0) (f .from .0))
+listed h input (Reconfigure f) =
+    call (inForce h) (reconfigure (f .shape) (replicate (f .shape .n * h .params .b) 0) (bytesOf input (f .message)) (f .from .0) (f .to .0))
 
 -- an accepted reading's message
 pub record Read (h : Held) (answer from : ℕ) (message : List ℕ) : Type 0 where
@@ -50,12 +50,12 @@ Prints h (Repair _) message = message ≡ []
 Prints h (Damage _) message = message ≡ []
 Prints h (Reconfigure _) message = message ≡ []
 
--- One event is tried: its line, and what is then held.
+-- One event is tried: its line, and what is then held. The answer printed is that of the step.
 pub record Tried (input : List ℕ) (h : Held) (number : ℕ) (e : Event) (line : List ℕ) (h′ : Held) : Type 0 where
   pub message : List ℕ
   pub prints : Prints h e message
   pub line-is : line ≡ lineOf number (kindOf e) (answerOf (h .params) e) message
-  pub step : Step h (listed (h .params) input e) h′
+  pub step : Step h (listed h input e) (answerOf (h .params) e) h′
 
 -- ---- one turn
 
@@ -95,7 +95,7 @@ pub data Opens (input : List ℕ) : List ℕ → Outcome → Type 0 where
       → Opens input (lineOf 0 0 0 [])
       (on
       (record {
-        stands = record { params = hd .params; codeword = codeword };
+        stands = begun (hd .params) codeword;
         number = 1;
         left = hd .events;
         at = hd .at;

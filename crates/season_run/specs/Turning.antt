@@ -8,6 +8,7 @@ use Rattle.gates.specs.Valid.{Valid}
 use Rattle.params.specs.declared.Params.{Params}
 use Rattle.ledger.specs.Ledger.{Step}
 use Rattle.season_lines.specs.Lines.{lineOf, Wrote}
+use Rattle.season_answers.specs.Answers.{answerOf}
 use Rattle.season_file.specs.declared.Event.{Event}
 use Rattle.season_file.specs.declared.Event.the-variants.{Update, Repair, Damage, Decode, Reconfigure}
 use Rattle.season_run.specs.Season.{listed, Prints, heldIn}
@@ -51,6 +52,6 @@ pub record Ready (a : Params) (input : List ℕ) (e : Event) (buffer : List ℕ)
 -- what it leaves: the parameters then in force, the message printed, and the record at the front of the buffer
 pub record Effected (a : Params) (input : List ℕ) (e : Event) (buffer : List ℕ) (params : Params) (message buffer′ : List ℕ) : Type 0 where
   pub prints : Prints (heldIn a buffer) e message
-  pub step : Step (heldIn a buffer) (listed a input e) (heldIn params buffer′)
+  pub step : Step (heldIn a buffer) (listed (heldIn a buffer) input e) (answerOf a e) (heldIn params buffer′)
   pub length-is : length buffer′ ≡ length buffer
   pub rest : drop (params .n * params .b) buffer′ ≡ drop (params .n * params .b) buffer
