@@ -26,7 +26,14 @@ same-length-2 : tie.Need-same-length-2
 same-length-2 c = search needs
 
 returns-3 : tie.Need-returns-3
-returns-3 c = record { served = λ _. c .before .before .before .before .begin-within .ensures; refused = λ ne. absurd (ne (record { record-room = c .before .before .before .before .before .before .before .before .if1 .left; line-room = c .before .before .before .before .before .before .before .if2 .left })) }
+returns-3 c =
+    record {
+      served = λ _. c .before .before .before .before .begin-within .ensures;
+      refused = λ ne. absurd (ne (record {
+        record-room = c .before .before .before .before .before .before .before .before .if1 .left;
+        line-room = c .before .before .before .before .before .before .before .if2 .left;
+      }));
+    }
 
 pub begin-spec : {M : Type 1} → statement M
 begin-spec =

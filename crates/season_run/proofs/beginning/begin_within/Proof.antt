@@ -20,13 +20,18 @@ enum-known-header : tie.Need-enum-known-header
 enum-known-header c = search needs
 
 set-up-requires : tie.Need-set-up-requires
-set-up-requires c κs = let s = c .before .before .before .before .before .before .before .before .before in (sym (c .before .before .before .before .before .«open» .ensures) ∙ c .before .before .before .header .given .1, s .pre)
+set-up-requires c κs =
+    let s = c .before .before .before .before .before .before .before .before .before in
+    (sym (c .before .before .before .before .before .«open» .ensures) ∙ c .before .before .before .header .given .1, s .pre)
 
 same-length : tie.Need-same-length
 same-length c = search needs
 
 returns : tie.Need-returns
-returns c = let s = c .before .before .before .before .before .before .before .before .before .before .before in ended-turn (Opens (now (s .args .input))) 0 0 _ (now (s .args .codeword)) (now (s .args .line)) _ _ (c .before .before .last-line .ensures) (faulty _ (sym (c .before .before .before .before .before .before .before .«open» .ensures) ∙ c .before .before .before .before .before .fault .given .1))
+returns c =
+    let s = c .before .before .before .before .before .before .before .before .before .before .before in
+    ended-turn (Opens (now (s .args .input))) 0 0 _ (now (s .args .codeword)) (now (s .args .line)) _ _ (c .before .before .last-line .ensures)
+    (faulty _ (sym (c .before .before .before .before .before .before .before .«open» .ensures) ∙ c .before .before .before .before .before .fault .given .1))
 
 same-length-2 : tie.Need-same-length-2
 same-length-2 c = search needs

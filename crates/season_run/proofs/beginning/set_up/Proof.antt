@@ -37,7 +37,14 @@ part-encode-end-2 : tie.Need-part-encode-end-2
 part-encode-end-2 c = let s = c .before .before .before .before .before .before .before .before in omega (arith, header-inside (now (s .args .input)) (s .args .header) (s .pre .0) .1)
 
 slice-relend-prefix-encode : tie.Need-slice-relend-prefix-encode
-slice-relend-prefix-encode c = let s = c .before .before .before .before .before .before .before .before .before in omega (arith, s .pre .1 .record-room, size-fits (now (s .args .input)) (s .args .header) (s .pre .0) (now (s .args .codeword)) (s .pre .1 .record-room) _ (c .before .before .before .before .record-length .ensures))
+slice-relend-prefix-encode c =
+    let s = c .before .before .before .before .before .before .before .before .before in
+    omega (
+      arith,
+      s .pre .1 .record-room,
+      size-fits (now (s .args .input)) (s .args .header) (s .pre .0) (now (s .args .codeword)) (s .pre .1 .record-room) _
+          (c .before .before .before .before .record-length .ensures),
+    )
 
 slice-aggregate-encode : tie.Need-slice-aggregate-encode
 slice-aggregate-encode c = sym (length-take-le _ (now (c .before .before .before .before .before .before .before .before .before .before .args .codeword)) (slice-relend-prefix-encode (c .before)))
@@ -55,7 +62,12 @@ same-length-2 : tie.Need-same-length-2
 same-length-2 c = search needs
 
 returns : tie.Need-returns
-returns c = let s = c .before .before .before .before .before .before .before .before .before .before .before .before .before .before .before .before .before .before in set-up-refused (now (s .args .input)) (s .args .header) (s .pre .0) (now (s .args .codeword)) (s .pre .1 .record-room) _ (c .before .before .before .before .before .before .before .before .before .before .before .before .before .record-length .ensures) _ _ (c .before .before .before .before .before .before .before .encode .kept .1 .1 .1 .0) (c .before .before .before .before .before .before .before .encode .ensures) (λ z. omega (arith, z, c .before .before .before .before .if1 .taken)) (now (s .args .line)) _ _ (c .before .before .last-line .ensures)
+returns c =
+    let s = c .before .before .before .before .before .before .before .before .before .before .before .before .before .before .before .before .before .before in
+    set-up-refused (now (s .args .input)) (s .args .header) (s .pre .0) (now (s .args .codeword)) (s .pre .1 .record-room) _
+    (c .before .before .before .before .before .before .before .before .before .before .before .before .before .record-length .ensures) _ _
+    (c .before .before .before .before .before .before .before .encode .kept .1 .1 .1 .0) (c .before .before .before .before .before .before .before .encode .ensures)
+    (λ z. omega (arith, z, c .before .before .before .before .if1 .taken)) (now (s .args .line)) _ _ (c .before .before .last-line .ensures)
 
 slice-aggregate-write-line : tie.Need-slice-aggregate-write-line
 slice-aggregate-write-line c = search needs
@@ -70,7 +82,13 @@ same-length-4 : tie.Need-same-length-4
 same-length-4 c = search needs
 
 returns-2 : tie.Need-returns-2
-returns-2 c = let s = c .before .before .before .before .before .before .before .before .before .before .before .before .before .before .before .before .before .before .before in set-up-accepted (now (s .args .input)) (s .args .header) (s .pre .0) (now (s .args .codeword)) (s .pre .1 .record-room) _ (c .before .before .before .before .before .before .before .before .before .before .before .before .before .before .record-length .ensures) _ _ (c .before .before .before .before .before .before .before .before .encode .kept .1 .1 .1 .0) (c .before .before .before .before .before .before .before .before .encode .ensures) (omega (arith, c .before .before .before .before .before .if1 .left)) (now (s .args .line)) _ _ (c .before .before .write-line .ensures) (omega (arith, s .pre .1 .line-room))
+returns-2 c =
+    let s = c .before .before .before .before .before .before .before .before .before .before .before .before .before .before .before .before .before .before .before in
+    set-up-accepted (now (s .args .input)) (s .args .header) (s .pre .0) (now (s .args .codeword)) (s .pre .1 .record-room) _
+    (c .before .before .before .before .before .before .before .before .before .before .before .before .before .before .record-length .ensures) _ _
+    (c .before .before .before .before .before .before .before .before .encode .kept .1 .1 .1 .0)
+    (c .before .before .before .before .before .before .before .before .encode .ensures) (omega (arith, c .before .before .before .before .before .if1 .left))
+    (now (s .args .line)) _ _ (c .before .before .write-line .ensures) (omega (arith, s .pre .1 .line-room))
 
 pub set-up-spec : {M : Type 1} → statement M
 set-up-spec =

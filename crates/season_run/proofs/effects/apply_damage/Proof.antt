@@ -64,7 +64,10 @@ same-length : tie.Need-same-length
 same-length c = search needs
 
 returns : tie.Need-returns
-returns c = let s = c .before .before .before .before .before .before .before .before .before .before .before in damage-applied (s .args .a) (now (s .args .input)) (s .args .f) (now (s .args .codeword)) (s .pre .0) (s .args .f .node .0 - 1) (omega (arith, node s .node-low)) (below s) (s .pre .1) _ (c .before .before .copy-block .ensures)
+returns c =
+    let s = c .before .before .before .before .before .before .before .before .before .before .before in
+    damage-applied (s .args .a) (now (s .args .input)) (s .args .f) (now (s .args .codeword)) (s .pre .0) (s .args .f .node .0 - 1) (omega (arith, node s .node-low))
+    (below s) (s .pre .1) _ (c .before .before .copy-block .ensures)
 
 pub apply-damage-spec : {M : Type 1} → statement M
 apply-damage-spec =

@@ -17,7 +17,9 @@ mul-count : tie.Need-mul-count
 mul-count c = k-fits (c .before .before .before .before .pre .0)
 
 slice-aggregate-decode : tie.Need-slice-aggregate-decode
-slice-aggregate-decode c = let s = c .before .before .before .before .before in sym (length-take-le _ (now (s .args .codeword)) (omega (arith, s .pre .1 .0 .0, blocks-room (s .args .a) (s .args .a .n) (s .pre .0) (omega arith))))
+slice-aggregate-decode c =
+    let s = c .before .before .before .before .before in
+    sym (length-take-le _ (now (s .args .codeword)) (omega (arith, s .pre .1 .0 .0, blocks-room (s .args .a) (s .args .a .n) (s .pre .0) (omega arith))))
 
 slice-relend-prefix-decode : tie.Need-slice-relend-prefix-decode
 slice-relend-prefix-decode c = let s = c .before .before .before .before .before in omega (arith, s .pre .1 .0 .1, blocks-room (s .args .a) (s .args .a .k) (s .pre .0) (omega arith))
@@ -32,7 +34,12 @@ same-length : tie.Need-same-length
 same-length c = search needs
 
 returns : tie.Need-returns
-returns c = let s = c .before .before .before .before .before .before .before .before .before in (λ input. decode-applied (s .args .a) input (s .args .f) (now (s .args .codeword)) (now (s .args .room)) _ _ (s .pre .0) (s .pre .1 .0 .0) (s .pre .1 .0 .1) (s .pre .1 .1) (c .before .before .decode .kept .1 .1 .1 .0 ∙ sym (slice-aggregate-decode-2 (c .before .before .before))) (c .before .before .decode .ensures), blocks-room (s .args .a) (s .args .a .k) (s .pre .0) (omega arith))
+returns c =
+    let s = c .before .before .before .before .before .before .before .before .before in (
+      λ input. decode-applied (s .args .a) input (s .args .f) (now (s .args .codeword)) (now (s .args .room)) _ _ (s .pre .0) (s .pre .1 .0 .0) (s .pre .1 .0 .1)
+          (s .pre .1 .1) (c .before .before .decode .kept .1 .1 .1 .0 ∙ sym (slice-aggregate-decode-2 (c .before .before .before))) (c .before .before .decode .ensures),
+      blocks-room (s .args .a) (s .args .a .k) (s .pre .0) (omega arith),
+    )
 
 pub apply-decode-spec : {M : Type 1} → statement M
 apply-decode-spec =

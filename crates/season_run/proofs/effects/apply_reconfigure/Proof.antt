@@ -31,7 +31,9 @@ add-end : tie.Need-add-end
 add-end c = search needs
 
 slice-reshare-prefix-reconfigure : tie.Need-slice-reshare-prefix-reconfigure
-slice-reshare-prefix-reconfigure c = let s = c .before .before .before .before .before .before .before .before in omega (arith, s .pre .0 .room, blocks-room (s .args .a) (s .args .a .n) (s .pre .0 .valid) (omega arith))
+slice-reshare-prefix-reconfigure c =
+    let s = c .before .before .before .before .before .before .before .before in
+    omega (arith, s .pre .0 .room, blocks-room (s .args .a) (s .args .a .n) (s .pre .0 .valid) (omega arith))
 
 slice-aggregate-reconfigure : tie.Need-slice-aggregate-reconfigure
 slice-aggregate-reconfigure c = sym (length-take-le _ (now (c .before .before .before .before .before .before .before .before .before .args .codeword)) (slice-reshare-prefix-reconfigure (c .before)))
@@ -49,7 +51,9 @@ slice-relend-prefix-reconfigure : tie.Need-slice-relend-prefix-reconfigure
 slice-relend-prefix-reconfigure c = let s = c .before .before .before .before .before .before .before .before .before .before in omega (arith, s .pre .1 .0, room-for s)
 
 slice-aggregate-reconfigure-2 : tie.Need-slice-aggregate-reconfigure-2
-slice-aggregate-reconfigure-2 c = sym (length-take-le _ (now (c .before .before .before .before .before .before .before .before .before .before .before .args .room)) (slice-relend-prefix-reconfigure (c .before)))
+slice-aggregate-reconfigure-2 c =
+    sym (length-take-le _ (now (c .before .before .before .before .before .before .before .before .before .before .before .args .room))
+    (slice-relend-prefix-reconfigure (c .before)))
 
 reconfigure-requires : tie.Need-reconfigure-requires
 reconfigure-requires c κs = search needs
@@ -57,7 +61,14 @@ reconfigure-requires c κs = search needs
 slice-reshare-prefix-copy-block : tie.Need-slice-reshare-prefix-copy-block
 slice-reshare-prefix-copy-block c =
     let s = c .before .before .before .before .before .before .before .before .before .before .before .before .before .before .before in
-    omega (arith, room-for s, s .pre .1 .0, front-length (s .args .f .shape .n * s .args .a .b) (now (s .args .room)) (c .before .before .before .reconfigure .last .1 .1 .1 .1 .1 .1 .0) (slice-relend-prefix-reconfigure (c .before .before .before .before .before)) (c .before .before .before .reconfigure .kept .1 .1 .1 .1 .1 .1 .0 ∙ sym (slice-aggregate-reconfigure-2 (c .before .before .before .before))))
+    omega (
+      arith,
+      room-for s,
+      s .pre .1 .0,
+      front-length (s .args .f .shape .n * s .args .a .b) (now (s .args .room))
+          (c .before .before .before .reconfigure .last .1 .1 .1 .1 .1 .1 .0) (slice-relend-prefix-reconfigure (c .before .before .before .before .before))
+          (c .before .before .before .reconfigure .kept .1 .1 .1 .1 .1 .1 .0 ∙ sym (slice-aggregate-reconfigure-2 (c .before .before .before .before))),
+    )
 
 slice-aggregate-copy-block : tie.Need-slice-aggregate-copy-block
 slice-aggregate-copy-block c = sym (length-take-le _ _ (slice-reshare-prefix-copy-block (c .before)))
@@ -74,8 +85,12 @@ same-length-2 c = search needs
 returns : tie.Need-returns
 returns c =
     let s = c .before .before .before .before .before .before .before .before .before .before .before .before .before .before .before .before .before .before .before in
-    subst⁻¹ (Effected (s .args .a) (now (s .args .input)) (Reconfigure (s .args .f)) (now (s .args .codeword)) (reshaped (s .args .a) (s .args .f .shape)) []) (c .before .before .copy-block .ensures)
-    (reconfigure-applied (s .args .a) (now (s .args .input)) (s .args .f) (s .pre .1 .1) (now (s .args .codeword)) (now (s .args .room)) _ _ (s .pre .0) (s .pre .1 .0) (c .before .before .before .before .before .before .before .reconfigure .kept .1 .1 .1 .1 .1 .1 .0 ∙ sym (slice-aggregate-reconfigure-2 (c .before .before .before .before .before .before .before .before))) (c .before .before .before .before .before .before .before .reconfigure .ensures))
+    subst⁻¹ (Effected (s .args .a) (now (s .args .input)) (Reconfigure (s .args .f)) (now (s .args .codeword)) (reshaped (s .args .a) (s .args .f .shape)) [])
+    (c .before .before .copy-block .ensures)
+    (reconfigure-applied (s .args .a) (now (s .args .input)) (s .args .f) (s .pre .1 .1) (now (s .args .codeword)) (now (s .args .room)) _ _ (s .pre .0) (s .pre .1 .0)
+    (c .before .before .before .before .before .before .before .reconfigure .kept .1 .1 .1 .1 .1 .1 .0
+    ∙ sym (slice-aggregate-reconfigure-2 (c .before .before .before .before .before .before .before .before)))
+    (c .before .before .before .before .before .before .before .reconfigure .ensures))
 
 pub apply-reconfigure-spec : {M : Type 1} → statement M
 apply-reconfigure-spec =

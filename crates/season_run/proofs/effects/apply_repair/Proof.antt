@@ -26,7 +26,9 @@ same-length : tie.Need-same-length
 same-length c = search needs
 
 returns : tie.Need-returns
-returns c = λ input. let s = c .before .before .before .before .before .before in repair-applied (s .args .a) input (s .args .f) (now (s .args .codeword)) _ _ (s .pre .0) (s .pre .1) (c .before .before .repair .kept .1 .0 ∙ sym (slice-aggregate-repair (c .before .before .before))) (c .before .before .repair .ensures)
+returns c =
+    λ input. let s = c .before .before .before .before .before .before in repair-applied (s .args .a) input (s .args .f) (now (s .args .codeword)) _ _ (s .pre .0)
+    (s .pre .1) (c .before .before .repair .kept .1 .0 ∙ sym (slice-aggregate-repair (c .before .before .before))) (c .before .before .repair .ensures)
 
 pub apply-repair-spec : {M : Type 1} → statement M
 apply-repair-spec =

@@ -38,7 +38,10 @@ same-length : tie.Need-same-length
 same-length c = search needs
 
 returns : tie.Need-returns
-returns c = let s = c .before .before .before .before .before .before .before .before .before in update-applied (s .args .a) (now (s .args .input)) (s .args .f) (now (s .args .codeword)) _ _ (s .pre) (c .before .before .update .kept .1 .0 ∙ sym (slice-aggregate-update (c .before .before .before .before))) (c .before .before .update .ensures)
+returns c =
+    let s = c .before .before .before .before .before .before .before .before .before in
+    update-applied (s .args .a) (now (s .args .input)) (s .args .f) (now (s .args .codeword)) _ _ (s .pre)
+    (c .before .before .update .kept .1 .0 ∙ sym (slice-aggregate-update (c .before .before .before .before))) (c .before .before .update .ensures)
 
 pub apply-update-spec : {M : Type 1} → statement M
 apply-update-spec =

@@ -13,7 +13,12 @@ answer-requires : tie.Need-answer-requires
 answer-requires c κs = search needs
 
 take-effect-requires : tie.Need-take-effect-requires
-take-effect-requires c κs = let s = c .before .before .before .before .before .before .before in let g = found-good (s .args .s .params) (now (s .args .input)) (s .args .s .at) (s .args .found) (s .pre .1 .1 .1 .0) in (record { valid = s .pre .1 .0 .valid; inside = g .inside; counted = g .counted; room = s .pre .0 .record-room }, (c .before .before .answer .ensures, s .pre .1 .1 .1 .1))
+take-effect-requires c κs =
+    let s = c .before .before .before .before .before .before .before in
+    let g = found-good (s .args .s .params) (now (s .args .input)) (s .args .s .at) (s .args .found) (s .pre .1 .1 .1 .0) in (
+      record { valid = s .pre .1 .0 .valid; inside = g .inside; counted = g .counted; room = s .pre .0 .record-room },
+      (c .before .before .answer .ensures, s .pre .1 .1 .1 .1),
+    )
 
 kind-of-requires : tie.Need-kind-of-requires
 kind-of-requires c κs = search needs
@@ -22,16 +27,24 @@ slice-reshare-prefix-write-line : tie.Need-slice-reshare-prefix-write-line
 slice-reshare-prefix-write-line c = search needs
 
 slice-aggregate-write-line : tie.Need-slice-aggregate-write-line
-slice-aggregate-write-line c = sym (length-take-le _ (c .before .before .before .before .before .before .before .before .take-effect .last .1 .1 .1 .1 .1 .0) (slice-reshare-prefix-write-line (c .before)))
+slice-aggregate-write-line c =
+    sym (length-take-le _ (c .before .before .before .before .before .before .before .before .take-effect .last .1 .1 .1 .1 .1 .0)
+    (slice-reshare-prefix-write-line (c .before)))
 
 write-line-requires : tie.Need-write-line-requires
 write-line-requires c κs = search needs
 
 add-t22 : tie.Need-add-t22
-add-t22 c = let s = c .before .before .before .before .before .before .before .before .before .before .before .before .before .before .before .before .before .before .before .before in omega (arith, s .pre .1 .0 .countable)
+add-t22 c =
+    let t = c .before .before .before .before .before .before .before .before .before .before in
+    let s = t .before .before .before .before .before .before .before .before .before .before in
+    omega (arith, s .pre .1 .0 .countable)
 
 sub-t23 : tie.Need-sub-t23
-sub-t23 c = let s = c .before .before .before .before .before .before .before .before .before .before .before .before .before .before .before .before .before .before .before .before .before in omega (arith, s .pre .1 .1 .0)
+sub-t23 c =
+    let t = c .before .before .before .before .before .before .before .before .before .before in
+    let s = t .before .before .before .before .before .before .before .before .before .before .before in
+    omega (arith, s .pre .1 .1 .0)
 
 same-length : tie.Need-same-length
 same-length c = search needs
@@ -46,8 +59,12 @@ returns : tie.Need-returns
 returns c =
     let s = c .before .before .before .before .before .before .before .before .before .before .before .before .before .before .before .before .before .before .before .before .before in
     let e = c .before .before .before .before .before .before .before .before .before .before .before .before .before .take-effect in
-    event-turn (now (s .args .input)) (s .args .s) (s .args .found) (s .pre .1 .1 .1 .0) (now (s .args .codeword)) (now (s .args .line)) (s .pre .0 .line-room) (e .result .params) _ _ _ _ _ _ (s .pre .1 .1 .0) (e .ensures .0) (omega (arith, e .ensures .1, slice-aggregate-write-line (c .before .before .before .before .before)))
-    (c .before .before .before .before .before .before .kind-of .ensures) (c .before .before .before .before .before .before .before .before .before .before .before .before .before .before .before .before .answer .ensures) (c .before .before .before .before .write-line .ensures)
+    event-turn (now (s .args .input)) (s .args .s) (s .args .found) (s .pre .1 .1 .1 .0) (now (s .args .codeword)) (now (s .args .line)) (s .pre .0 .line-room)
+    (e .result .params) _ _ _ _ _ _ (s .pre .1 .1 .0) (e .ensures .0)
+    (omega (arith, e .ensures .1, slice-aggregate-write-line (c .before .before .before .before .before)))
+    (c .before .before .before .before .before .before .kind-of .ensures)
+    (c .before .before .before .before .before .before .before .before .before .before .before .before .before .before .before .before .answer .ensures)
+    (c .before .before .before .before .write-line .ensures)
 
 pub try-within-spec : {M : Type 1} → statement M
 try-within-spec =

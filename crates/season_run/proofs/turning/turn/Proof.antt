@@ -25,7 +25,11 @@ idle-requires-3 : tie.Need-idle-requires-3
 idle-requires-3 c κs = search needs
 
 returns-3 : tie.Need-returns-3
-returns-3 c = record { served = λ h. absurd (no-record _ _ (c .before .before .record-length .ensures) (c .before .if3 .taken) (h .1 .valid)); refused = λ _. record { ends = c .idle3 .ensures; buffer-kept = refl; line-kept = refl } }
+returns-3 c =
+    record {
+      served = λ h. absurd (no-record _ _ (c .before .before .record-length .ensures) (c .before .if3 .taken) (h .1 .valid));
+      refused = λ _. record { ends = c .idle3 .ensures; buffer-kept = refl; line-kept = refl };
+    }
 
 idle-requires-4 : tie.Need-idle-requires-4
 idle-requires-4 c κs = search needs
@@ -34,7 +38,16 @@ returns-4 : tie.Need-returns-4
 returns-4 c = record { served = λ h. absurd (omega (arith, c .before .if4 .taken, h .1 .countable)); refused = λ _. record { ends = c .idle4 .ensures; buffer-kept = refl; line-kept = refl } }
 
 turn-within-requires : tie.Need-turn-within-requires
-turn-within-requires c κs = (record { record-room = c .before .before .before .before .before .before .before .if1 .left; line-room = c .before .before .before .before .before .before .if2 .left }, record { valid = some-record _ _ (c .before .before .before .before .before .record-length .ensures) (c .before .before .before .before .if3 .left); countable = omega (arith, c .before .before .if4 .left) })
+turn-within-requires c κs = (
+  record {
+    record-room = c .before .before .before .before .before .before .before .if1 .left;
+    line-room = c .before .before .before .before .before .before .if2 .left;
+  },
+  record {
+    valid = some-record _ _ (c .before .before .before .before .before .record-length .ensures) (c .before .before .before .before .if3 .left);
+    countable = omega (arith, c .before .before .if4 .left);
+  },
+)
 
 same-length : tie.Need-same-length
 same-length c = search needs
@@ -43,7 +56,12 @@ same-length-2 : tie.Need-same-length-2
 same-length-2 c = search needs
 
 returns-5 : tie.Need-returns-5
-returns-5 c = record { served = λ _. c .before .before .before .before .turn-within .ensures; refused = λ ne. absurd (ne (turn-within-requires (c .before .before .before .before .before) (c .before .before .before .before .before .before .before .before .before .before .before .before .before .before .before .before .κs))) }
+returns-5 c =
+    record {
+      served = λ _. c .before .before .before .before .turn-within .ensures;
+      refused = λ ne. absurd (ne (turn-within-requires (c .before .before .before .before .before)
+          (c .before .before .before .before .before .before .before .before .before .before .before .before .before .before .before .before .κs)));
+    }
 
 pub turn-spec : {M : Type 1} → statement M
 turn-spec =

@@ -31,13 +31,27 @@ enum-known-f-2 : tie.Need-enum-known-f-2
 enum-known-f-2 c = search needs
 
 try-event-requires : tie.Need-try-event-requires
-try-event-requires c κs = let s = c .before .before .before .before .before .before .before .before .before .before .before in (s .pre .0, (s .pre .1, (omega (arith, c .before .before .before .before .before .before .if1 .left), sym (c .before .before .before .before .before .parse .ensures) ∙ c .before .before .before .f2 .given .1)))
+try-event-requires c κs =
+    let s = c .before .before .before .before .before .before .before .before .before .before .before in (
+      s .pre .0,
+      (
+        s .pre .1,
+        (
+          omega (arith, c .before .before .before .before .before .before .if1 .left),
+          sym (c .before .before .before .before .before .parse .ensures) ∙ c .before .before .before .f2 .given .1,
+        ),
+      ),
+    )
 
 same-length-2 : tie.Need-same-length-2
 same-length-2 c = search needs
 
 returns-2 : tie.Need-returns-2
-returns-2 c = let s = c .before .before .before .before .before .before .before .before .before .before .before .before .before in ended-turn (Goes (now (s .args .input)) (placeOf (s .args .s) (now (s .args .codeword)))) (s .args .s .number) _ _ (now (s .args .codeword)) (now (s .args .line)) _ _ (c .before .before .last-line .ensures) (faulty (s .args .s .left - 1) _ (omega (arith, c .before .before .before .before .before .before .before .before .if1 .left)) (sym (c .before .before .before .before .before .before .before .parse .ensures) ∙ c .before .before .before .before .before .f .given .1))
+returns-2 c =
+    let s = c .before .before .before .before .before .before .before .before .before .before .before .before .before in
+    ended-turn (Goes (now (s .args .input)) (placeOf (s .args .s) (now (s .args .codeword)))) (s .args .s .number) _ _ (now (s .args .codeword)) (now (s .args .line)) _ _
+    (c .before .before .last-line .ensures) (faulty (s .args .s .left - 1) _ (omega (arith, c .before .before .before .before .before .before .before .before .if1 .left))
+    (sym (c .before .before .before .before .before .before .before .parse .ensures) ∙ c .before .before .before .before .before .f .given .1))
 
 same-length-3 : tie.Need-same-length-3
 same-length-3 c = search needs
