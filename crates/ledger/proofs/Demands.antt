@@ -69,10 +69,10 @@ demand-1 =
     told post = (post .number, post .refused)
 
 -- 2. "Every block, view, reading, difference, check, .. rebuilt block and rearranged record is what .. document 01 fixes": a call's answer and every byte of its
--- buffer are settled by its post-condition. One answer and one list of bytes satisfy it, where the slices lent hold bytes (as by their type they do), and no
--- other does.
+-- buffer are settled by its post-condition. Some answer and list of bytes meet it, where the slices lent hold bytes (as by their type they do), and no other
+-- does. (Of the inverse it is said here that no two do.)
 abbrev pub Settled : Type 0 → (ℕ → List ℕ → Type 0) → Type 0
-Settled BytesLent Post = (BytesLent → Met Post) × Once Post
+Settled BytesLent P = (BytesLent → Met P) × Once P
 
 pub record Demand2 : Type 0 where
   pub set-up : (a : Params) (message slack old : List ℕ) → Settled (Unit {0}) (EncodePost a message slack old)

@@ -61,7 +61,7 @@ pub data Lent : Type 0 where
   held : Lent
   other : List ℕ → Lent
 
--- What every call is given beside its own arguments: parameters, and the record lent. (A difference is lent none, and nothing is said of it there.)
+-- What every call is given beside its own arguments: parameters, and the record lent (at which a difference, which is lent none, does not look).
 pub record Given : Type 0 where
   pub params : Params
   pub codeword : Lent
