@@ -4,4 +4,5 @@ pub mod Below
 pub mod Seq
 pub mod Filled
 pub mod Parts
+pub mod Buffers
 pub mod Questions

@@ -1,14 +1,16 @@
 -- Places of blocks, by their entries; and what places_of makes of the list of a set's nodes, entry by entry. Assumes nothing.
-use mathlib.Core.Path.{_≡_, refl, sym, ap, ap₂, _∙_}
+use mathlib.Core.Path.{_≡_, refl, sym, ap, ap₂, _∙_, subst⁻¹}
 use mathlib.Core.Bool.{true}
 use mathlib.Core.List.{List, _++_}
 use mathlib.Core.Logic.{⊎-elim}
-use Prim.Native.Nat.{ℕ, suc, _+_, _-_, _^_, _≤_, _<_}
+use Prim.Native.Nat.{ℕ, suc, _+_, _-_, _*_, _^_, _≤_, _<_}
+use native.Mathlib.Nat.{mul-le-mul-right}
 use native.Mathlib.Omega.{arith}
 use lib.ListN.{length, getD, take, drop, replicate, length-drop, take-append-drop, List·getD-append, List·getD-eq-default}
 use lib.Seq.{length-take-le, getD-take, getD-drop, drop-at, ext-getD}
 use Rattle.base.proofs.Cases.{eq-or}
-use Rattle.base.proofs.Seq.{length-tabulate, getD-tabulate, zeros-at}
+use Rattle.base.specs.Seq.{tabulate}
+use Rattle.base.proofs.Seq.{length-tabulate, getD-tabulate, eq-tabulate, zeros-at}
 use Rattle.base.specs.Parts.{Filled}
 use Rattle.params.specs.Nodes.{has, size, listed, Listing, inOrder, placesOf, Placing}
 use Rattle.params.proofs.Sets.{length-nodes, entry, size-most, length-listed}
@@ -31,6 +33,22 @@ pub place-of : (s k : ℕ) → s < 2 ^ 32 → k < size s
 place-of s k h hk =
     let g = entry (has s) 32 k (omega (arith, length-listed s h, length-nodes (has s) 32)) in
     (g .0, g .2, g .3, places-at s k (omega (arith, size-most s h)) ∙ ap (λ (i : ℕ). i - 1) (g .3) ∙ omega arith)
+
+-- the places of all its nodes, at the front of a list that has them
+module _ (s : ℕ) (h : s < 2 ^ 32) (places : List ℕ) (told : places ≡ placesOf s) (width : ℕ) (all : width ≡ size s) where
+  pub placed-length : length (take width places) ≡ width
+  placed-length = length-take-le width places (omega (arith, ap length told ∙ length-places s, size-most s h))
+
+  pub placed-at : (k : ℕ) → k < width → getD (take width places) k 0 ≡ getD (placesOf s) k 0
+  placed-at k hk = getD-take width places k 0 hk ∙ ap (λ (l : List ℕ). getD l k 0) told
+
+  -- their blocks are there in a list that has those of the nodes 1, .., n
+  pub placed-inside : (b n size : ℕ) → ((i : ℕ) → has s i ≡ true → i ≤ n) → n * b ≤ size → (k : ℕ) → k < length (take width places)
+      → suc (getD (take width places) k 0) * b ≤ size
+  placed-inside b n size most room k hk =
+      let lt : k < width = omega (arith, placed-length) in
+      let g = place-of s k h (omega arith) in
+      subst⁻¹ (λ (j : ℕ). suc j * b ≤ size) (placed-at k lt ∙ g .3) (omega (arith, mul-le-mul-right b (most (suc (g .0)) (g .1))))
 
 -- what places_of leaves of 32 zeros
 pub placing-zeros : (s : ℕ) (new : List ℕ) → s < 2 ^ 32 → Placing s (replicate 32 0) new → new ≡ placesOf s
@@ -69,28 +87,38 @@ module _ (s : ℕ) (h : s < 2 ^ 32) (old : List ℕ) (count : ℕ) (l : List ℕ
       let lt : i < size s = omega (arith, lists .counted room) in
       omega (arith, node-at room i lt, place-of s i h lt .2)
 
-  -- each node's entry has become one less
+  -- each node's entry has become f of the node
+  module _ (f : ℕ → ℕ) (t : ℕ) (new : List ℕ) (all : t ≡ count) (same : length l ≡ length old) (filled : Filled (λ i. f (getD l i 0)) t l new) where
+    pub entries-kept : (length old ≡ 32 → ⊥) → new ≡ old
+    entries-kept none = ext-getD 0 new l (filled .same) (λ i hi. filled .rest i (omega (arith, lists .kept none .1))) ∙ lists .kept none .0
+
+    pub entries-told : length old ≡ 32 → new ≡ tabulate (size s) (λ i. f (getD (listed s) i 0)) ++ drop (size s) old
+    entries-told room = sym (take-append-drop (size s) new) ∙ ap₂ _++_ front behind
+      where
+        full : length (take (size s) new) ≡ size s
+        full = length-take-le (size s) new (omega (arith, filled .same ∙ same ∙ room, size-most s h))
+
+        front : take (size s) new ≡ tabulate (size s) (λ i. f (getD (listed s) i 0))
+        front =
+            eq-tabulate (size s) _ (take (size s) new) full
+            (λ i hi. getD-take (size s) new i 0 hi ∙ filled .done i (omega (arith, lists .counted room)) ∙ ap f (node-at room i hi))
+
+        behind : drop (size s) new ≡ drop (size s) old
+        behind =
+            ext-getD 0 (drop (size s) new) (drop (size s) l) (simp length-drop (ap (λ (k : ℕ). k - size s) (filled .same)))
+            (λ i hi. getD-drop (size s) new i 0 ∙ filled .rest (size s + i) (omega (arith, lists .counted room)) ∙ sym (getD-drop (size s) l i 0))
+            ∙ ap (drop (size s)) (lists .written room) ∙ drop-at (listed s) (drop (size s) old) (size s) (length-listed s h)
+
+  -- .. one less than the node
   pub places-told : (t : ℕ) (new : List ℕ) → t ≡ count → length l ≡ length old → Filled (λ i. getD l i 0 - 1) t l new → Placing s old new
   places-told t new all same filled =
       record {
-        written = λ room. sym (take-append-drop (size s) new) ∙ ap₂ _++_ (front room) (behind room);
-        kept = λ none. ext-getD 0 new l (filled .same) (λ i hi. filled .rest i (omega (arith, lists .kept none .1))) ∙ lists .kept none .0;
+        written = λ room.
+            entries-told (λ i. i - 1) t new all same filled room ∙ ap (λ (k : List ℕ). k ++ drop (size s) old) (sym places-front);
+        kept = entries-kept (λ i. i - 1) t new all same filled;
       }
     where
-      front-length : (k : List ℕ) → length k ≡ 32 → length (take (size s) k) ≡ size s
-      front-length k e = length-take-le (size s) k (omega (arith, size-most s h))
-
-      front : length old ≡ 32 → take (size s) new ≡ take (size s) (placesOf s)
-      front room =
-          let e = front-length new (filled .same ∙ same ∙ room) in
-          ext-getD 0 _ _ (e ∙ sym (front-length (placesOf s) (length-places s)))
-          (λ i hi.
-          let lt : i < size s = omega arith in
-          getD-take (size s) new i 0 lt ∙ filled .done i (omega (arith, lists .counted room)) ∙ ap (λ (k : ℕ). k - 1) (node-at room i lt)
-          ∙ sym (getD-take (size s) (placesOf s) i 0 lt ∙ places-at s i (omega (arith, size-most s h))))
-
-      behind : length old ≡ 32 → drop (size s) new ≡ drop (size s) old
-      behind room =
-          ext-getD 0 (drop (size s) new) (drop (size s) l) (simp length-drop (ap (λ (k : ℕ). k - size s) (filled .same)))
-          (λ i hi. getD-drop (size s) new i 0 ∙ filled .rest (size s + i) (omega (arith, lists .counted room)) ∙ sym (getD-drop (size s) l i 0))
-          ∙ ap (drop (size s)) (lists .written room) ∙ drop-at (listed s) (drop (size s) old) (size s) (length-listed s h)
+      places-front : take (size s) (placesOf s) ≡ tabulate (size s) (λ i. getD (listed s) i 0 - 1)
+      places-front =
+          eq-tabulate (size s) _ (take (size s) (placesOf s)) (length-take-le (size s) (placesOf s) (omega (arith, length-places s, size-most s h)))
+          (λ i hi. getD-take (size s) (placesOf s) i 0 hi ∙ places-at s i (omega (arith, size-most s h)))
