@@ -14,7 +14,7 @@ use Rattle.base.proofs.Buffers.{buffer-front, buffer-fits, buffer-count}
 use Rattle.field.specs.Field.{IsByte}
 use Rattle.interpolation.specs.Polynomial.{Points}
 use Rattle.interpolation.proofs.PointLists.{points-of, points-1-32}
-use Rattle.params.specs.Nodes.{has, size, count, listed, outside, Listing}
+use Rattle.params.specs.Nodes.{has, size, count, outside, Listing}
 use Rattle.params.proofs.Sets.{entry, size-count, size-most, all-size, all-at}
 use Rattle.params.proofs.Placing.{entries-told, entries-kept}
 use Rattle.code.specs.Code.{point}

@@ -1,7 +1,8 @@
 pub mod Laws
 mod Rows
-pub mod Values
+mod Values
 mod Basis
+mod Distinct
 mod Gains
 mod Completion
 mod Shares

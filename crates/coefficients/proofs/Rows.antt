@@ -1,5 +1,5 @@
 -- Rows of powers as the code writes them, one after the other. Assumes nothing.
-use mathlib.Core.Path.{_≡_, refl, sym, ap, _∙_, subst}
+use mathlib.Core.Path.{_≡_, refl, sym, ap, ap₂, _∙_}
 use mathlib.Core.Bool.{Bool, true, false, not}
 use mathlib.Core.List.{List}
 use Prim.Native.Nat.{ℕ, zero, suc, _+_, _*_, _≤_, _<_}
@@ -7,18 +7,17 @@ use native.Mathlib.Nat.{zero-lt-suc}
 use native.Mathlib.Omega.{arith}
 use borrow.Author.Tests.{eqb-true, eqb-false, not-true, not-false}
 use lib.Dec.{eqb}
-use lib.ListN.{length, getD, take}
-use lib.Seq.{getD-take, length-take-le, ext-getD}
+use lib.ListN.{length, getD, replicate}
+use lib.Seq.{ext-getD}
 use Rattle.base.specs.Seq.{tabulate, blocks}
-use Rattle.base.proofs.Seq.{length-tabulate, getD-tabulate, length-blocks}
+use Rattle.base.proofs.Seq.{length-tabulate, getD-tabulate, tabulate-ext, tabulate-zeros, length-blocks}
 use Rattle.base.specs.Parts.{Blocked}
 use Rattle.base.proofs.Parts.{blocked-all}
 use Rattle.field.specs.Field.{mul, pow}
-use Rattle.field.proofs.Multiplication.{mul-comm}
-use Rattle.field.proofs.Exponents.{pow-suc, pow-add, logs, log-table}
-use Rattle.code.specs.Code.{point}
-use Rattle.coefficients.specs.Coefficients.{pointPowers, PowersPost}
-use Rattle.coefficients.specs.Working.{powersOf, LowExponents}
+use Rattle.field.proofs.Multiplication.{mul-comm, mul-zero-left}
+use Rattle.field.proofs.Exponents.{pow-suc, pow-add}
+use Rattle.coefficients.specs.Coefficients.{powerRows, PowersPost}
+use Rattle.coefficients.specs.Working.{powersOf}
 
 -- a list that was told by its entries
 pub tabulated : (n : ℕ) (f : ℕ → ℕ) (l : List ℕ) → l ≡ tabulate n f → (length l ≡ n) × ((j : ℕ) → j < n → getD l j 0 ≡ f j)
@@ -38,23 +37,16 @@ row-powers c m lent new h q =
 
 -- ---- powers by exponents
 
--- one more power of 02^l
-pub step-on : (x l j : ℕ) → pow 2 x ≡ pow (pow 2 l) j → pow 2 (x + l) ≡ pow (pow 2 l) (suc j)
-step-on x l j h = pow-add 2 x l ∙ ap (λ (k : ℕ). mul k (pow 2 l)) h ∙ mul-comm _ (pow 2 l) ∙ sym (pow-suc (pow 2 l) j)
+-- one more power of c, which is 02^l
+pub step-on : (c x l j : ℕ) → pow 2 l ≡ c → pow 2 x ≡ pow c j → pow 2 (x + l) ≡ pow c (suc j)
+step-on c x l j e h = pow-add 2 x l ∙ ap₂ mul h e ∙ mul-comm _ c ∙ sym (pow-suc c j)
 
--- the exponents of the low bytes stand first in the list of all
-pub low-exponents : LowExponents (take 33 logs)
-low-exponents =
-    record {
-      count = length-take-le 33 logs (omega (arith, log-table .count));
-      small = λ a h n. subst (λ (k : ℕ). k < 255) (sym (getD-take 33 logs a 0 h)) (log-table .small a (omega arith) n);
-      power = λ a h n. ap (pow 2) (getD-take 33 logs a 0 h) ∙ log-table .power a (omega arith) n;
-    }
-
--- the points of the nodes 1, .., 32 are such bytes
-pub point-low : (i : ℕ) → i < 32 → (point (suc i) < 33) × (point (suc i) ≡ 0 → ⊥)
-unfolding point
-point-low i h = (omega arith, λ z. omega arith)
+-- the powers of 00
+pub zero-powers : (c : ℕ) (new lent : List ℕ) → c ≡ 0 → new ≡ replicate (length lent) 0 → new ≡ powersOf c (length lent)
+unfolding powersOf
+zero-powers c new lent z h =
+    h ∙ sym (tabulate-zeros (length lent))
+    ∙ tabulate-ext (length lent) _ _ (λ j hj. sym (ap (λ (x : ℕ). pow x (suc j)) z ∙ pow-suc 0 j ∙ mul-zero-left (pow 0 j)))
 
 -- ---- rows
 
@@ -67,20 +59,17 @@ blocked-whole (suc b) n f t old new ho ht s = blocked-all (suc b) n f t old new 
 
 -- ---- what the call of rows of powers leaves
 
--- too many nodes
-pub many-kept : (n m : ℕ) (out : List ℕ) → 32 < n → PowersPost n m out out
-many-kept n m out many = record { written = λ few room. absurd (omega arith); kept = λ none. refl }
-
--- no room for just the rows
-pub powers-kept : (n m : ℕ) (out : List ℕ) (fits : Bool) → fits ≡ eqb (length out) (n * m) → not fits ≡ true → PowersPost n m out out
-powers-kept n m out fits r taken =
+-- out has not just their length
+pub powers-kept : (points : List ℕ) (m : ℕ) (out : List ℕ) (fits : Bool) → fits ≡ eqb (length out) (length points * m) → not fits ≡ true
+    → PowersPost points m out out
+powers-kept points m out fits r taken =
     record {
-      written = λ few room. absurd (eqb-false (length out) (n * m) (sym r ∙ not-true fits taken) room);
+      written = λ room. absurd (eqb-false (length out) (length points * m) (sym r ∙ not-true fits taken) room);
       kept = λ none. refl;
     }
 
 pub has-room : (n m : ℕ) (out : List ℕ) (fits : Bool) → fits ≡ eqb (length out) (n * m) → not fits ≡ false → length out ≡ n * m
 has-room n m out fits r left = eqb-true (length out) (n * m) (sym r ∙ not-false fits left)
 
-pub powers-made : (n m : ℕ) (old new : List ℕ) → n ≤ 32 → length old ≡ n * m → new ≡ pointPowers n m → PowersPost n m old new
-powers-made n m old new few room made = record { written = λ f s. made; kept = λ none. absurd (none (few, room)) }
+pub powers-made : (points : List ℕ) (m : ℕ) (old new : List ℕ) → length old ≡ length points * m → new ≡ powerRows m points → PowersPost points m old new
+powers-made points m old new room made = record { written = λ s. made; kept = λ none. absurd (none room) }

@@ -1,4 +1,4 @@
--- The share of the leading coefficients as the code adds it, power by power, node by node and row by row. Assumes nothing.
+-- The share of the leading coefficients as the code adds it, power by power, point by point and row by row. Assumes nothing.
 use mathlib.Core.Path.{_≡_, refl, sym, ap, ap₂, _∙_}
 use mathlib.Core.List.{List}
 use Prim.Native.Nat.{ℕ, suc, _+_, _≤_, _<_}
@@ -15,7 +15,6 @@ use Rattle.field.proofs.Addition.{add-assoc, add-zero-right}
 use Rattle.field.proofs.Multiplication.{mul-comm, mul-assoc, mul-zero-left}
 use Rattle.field.proofs.Exponents.{pow-suc, pow-add}
 use Rattle.field.proofs.FiniteSum.{sum-zero, sum-ext, sum-last}
-use Rattle.code.specs.Code.{point}
 use Rattle.coefficients.specs.Working.{withPowers, withShare, Shared}
 use Rattle.coefficients.proofs.Rows.{tabulated}
 
@@ -36,7 +35,7 @@ pub no-gain : (g x : ℕ) (l : List ℕ) → g ≡ 0 → l ≡ withPowers g x l
 unfolding withPowers
 no-gain g x l z = unchanged l _ (λ j. ap (λ (k : ℕ). mul k (pow x (suc j))) z ∙ mul-zero-left (pow x (suc j)))
 
--- ---- one node after the other
+-- ---- one point after the other
 
 pub share-none : (at gains l : List ℕ) → l ≡ withShare 0 at gains l
 unfolding withShare
@@ -46,17 +45,17 @@ pub share-length : (n : ℕ) (at gains old new : List ℕ) → new ≡ withShare
 unfolding withShare
 share-length n at gains old new h = tabulated (length old) _ new h .0
 
-pub share-more : (n x : ℕ) (at gains old before new : List ℕ) → x ≡ point (getD at n 0) → before ≡ withShare n at gains old
-    → new ≡ withPowers (getD gains n 0) x before → new ≡ withShare (n + 1) at gains old
+pub share-more : (n : ℕ) (at gains old before new : List ℕ) → before ≡ withShare n at gains old → new ≡ withPowers (getD gains n 0) (getD at n 0) before
+    → new ≡ withShare (n + 1) at gains old
 unfolding withPowers withShare
-share-more n x at gains old before new hx hb h =
+share-more n at gains old before new hb h =
     let b = tabulated (length old) _ before hb in
     let w = tabulated (length before) _ new h in
     eq-tabulate (length old) _ new (w .0 ∙ b .0)
     (λ j hj.
-    let f : ℕ → ℕ = λ o. mul (getD gains o 0) (pow (point (getD at o 0)) (suc j)) in
+    let f : ℕ → ℕ = λ o. mul (getD gains o 0) (pow (getD at o 0) (suc j)) in
     w .1 j (omega (arith, b .0))
-    ∙ ap₂ add (b .1 j hj) (ap (λ (y : ℕ). mul (getD gains n 0) (pow y (suc j))) hx)
+    ∙ ap (λ (y : ℕ). add y (f n)) (b .1 j hj)
     ∙ add-assoc (getD old j 0) (sum n f) (f n)
     ∙ ap (add (getD old j 0)) (sym (sum-last n f) ∙ ap (λ (k : ℕ). sum k f) (sym (add-one n))))
 
@@ -65,7 +64,7 @@ share-more n x at gains old before new hx hb h =
 -- entry j of row t
 abbrev pub entry : ℕ → List ℕ → List ℕ → List ℕ → ℕ → ℕ → ℕ
 entry e at gains old t j =
-    add (cell e old t j) (sum (length at) (λ o. mul (cell (length at) gains t o) (pow (point (getD at o 0)) (suc j))))
+    add (cell e old t j) (sum (length at) (λ o. mul (cell (length at) gains t o) (pow (getD at o 0) (suc j))))
 
 -- the row that was lent, its entries still the old ones
 pub row-share : (rows e t : ℕ) (at gains old before new : List ℕ) → Blocked e rows (entry e at gains old) t old before → length (partOf e t before) ≡ e
@@ -78,7 +77,7 @@ row-share rows e t at gains old before new done room h =
       λ j hj.
           w .1 j (omega arith)
           ∙ ap₂ add (partOf-at e t before j hj ∙ done .rest t j (omega arith) hj)
-          (sum-ext (length at) _ _ (λ o ho. ap (λ (g : ℕ). mul g (pow (point (getD at o 0)) (suc j))) (partOf-at (length at) t gains o ho))),
+          (sum-ext (length at) _ _ (λ o ho. ap (λ (g : ℕ). mul g (pow (getD at o 0) (suc j))) (partOf-at (length at) t gains o ho))),
     )
 
 pub rows-shared : (rows e t : ℕ) (at gains old new : List ℕ) → rows ≤ t → Blocked e rows (entry e at gains old) t old new → Shared rows e at gains old new

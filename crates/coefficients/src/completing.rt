@@ -1,24 +1,23 @@
-// From leading coefficients and values at some nodes to values at others.
+// From leading coefficients and values at some points to values at others.
 use crate::distances::apart_exponent;
+use crate::listing::lists;
 use crate::logarithms::exponent;
 use crate::logarithms::opposite;
 use crate::logarithms::reduced;
 use crate::raising::fill_rows;
 use base::wide;
-use code::point;
 use kernels::add_product;
-use params::Node;
 use params::in_order;
 ghost use mathlib.Core.Path.{_≡_};
 ghost use Prim.Native.Nat.{_*_, _≤_, _<_};
 ghost use lib.ListN.{length};
 ghost use Rattle.field.specs.Field.{LogTable, PowerTable};
-ghost use Rattle.code.specs.Code.{point};
 ghost use Rattle.interpolation.specs.Polynomial.{Points};
-ghost use Rattle.coefficients.specs.Working.{pointsOf, same, unitRow, gainRow, gainRows, Missing, Listed, Weighed, Weighable, Findable, Carries, Carriable, withPowers, withShare, Shared, Sharable, Completed, Completable};
+ghost use Rattle.coefficients.specs.Coefficients.{Extends, Roomy};
+ghost use Rattle.coefficients.specs.Working.{same, unitRow, gainRow, gainRows, Missing, Weighed, Weighable, Findable, Carries, Carriable, withPowers, withShare, Shared, Sharable};
 
-// leading and gains := the rows that take leading coefficients, and values at the nodes of `at`, to values at the targets. The gains take all that stands at
-// the nodes, the leading coefficients' part too; that part is taken off again by adding its share to leading.
+// leading and gains := the rows that take leading coefficients, and values at the points of `at`, to values at the targets. The gains take whole values to the
+// targets, with what the leading coefficients give in them; adding that share to leading takes it off.
 pub(crate) fn complete(
     logs: &[u8],
     exps: &[u8],
@@ -30,16 +29,16 @@ pub(crate) fn complete(
 )
     requires { ⌜ LogTable (now logs) ⌝ }
     requires { ⌜ PowerTable (now exps) ⌝ }
-    requires { ⌜ Completable e (now at) (now targets) (now leading) (now gains) ⌝ }
-    ensures { λ _. ⌜ Completed e (now (at .entry)) (now (targets .entry)) (now (leading .exit)) (now (gains .exit)) ⌝ }
+    requires { ⌜ Roomy e (now at) (now targets) (length (now leading)) (length (now gains)) ⌝ }
+    ensures { λ _. ⌜ Extends e (now (at .entry)) (now (targets .entry)) (now (leading .exit)) (now (gains .exit)) ⌝ }
 {
     fill_rows(logs, exps, targets, e, leading);
     gain_rows(logs, exps, e, at, targets, gains);
     add_share(logs, exps, targets.len(), e, at, gains, leading);
 }
 
-// gains := the coefficients that take what the other coefficients give at the nodes of `at` to what they give at the targets: at target t, for node i with
-// point c, (t/c)^(e+1) times the product of all (t - d)/(c - d), for the points d of the other nodes.
+// gains := the coefficients that take what the other coefficients give at the points of `at` to what they give at the targets: at target t, for the point c,
+// (t/c)^(e+1) times the product of all (t - d)/(c - d), for the other points d.
 fn gain_rows(logs: &[u8], exps: &[u8], e: usize, at: &[u8], targets: &[u8], gains: &mut [u8])
     requires { ⌜ LogTable (now logs) ⌝ }
     requires { ⌜ PowerTable (now exps) ⌝ }
@@ -51,7 +50,7 @@ fn gain_rows(logs: &[u8], exps: &[u8], e: usize, at: &[u8], targets: &[u8], gain
     fill_gains(logs, exps, e, at, &weights, targets, gains);
 }
 
-// weights := for each node the exponent of what its gains are divided by.
+// weights := for each point the exponent of what its gains are divided by.
 fn weigh(logs: &[u8], e: usize, at: &[u8], weights: &mut [u8])
     requires { ⌜ LogTable (now logs) ⌝ }
     requires { ⌜ Weighable e (now at) ⌝ }
@@ -122,21 +121,7 @@ fn fill_gain(
     fill_apart(logs, exps, e, at, weights, target, gains);
 }
 
-// Whether the node is one of these.
-fn lists(nodes: &[u8], node: u8) -> bool
-    ensures { λ r. ⌜ Listed (now (nodes .entry)) node r ⌝ }
-{
-    let mut j = 0;
-    while j < nodes.len() {
-        if nodes[j] == node {
-            return true;
-        }
-        j += 1;
-    }
-    false
-}
-
-// A target that is a node itself: its own value, and no other.
+// A target that is one of the points: its own value, and no other.
 fn fill_unit(at: &[u8], target: u8, gains: &mut [u8])
     requires { ⌜ length (now gains) ≡ length (now at) ⌝ }
     ensures { λ _. ⌜ now (gains .exit) ≡ unitRow (now (at .entry)) target ⌝ }
@@ -149,7 +134,7 @@ fn fill_unit(at: &[u8], target: u8, gains: &mut [u8])
     }
 }
 
-// 1 for equal nodes, 0 for others.
+// 1 for equal points, 0 for others.
 fn equal(x: u8, y: u8) -> u8
     ensures { λ r. ⌜ r ≡ same x y ⌝ }
 {
@@ -159,7 +144,7 @@ fn equal(x: u8, y: u8) -> u8
     0
 }
 
-// A target that is none of the nodes: the product of all t - d, without the node's own factor, divided by the node's weight.
+// A target that is none of the points: the product of all t - d, without the point's own factor, divided by the point's weight.
 fn fill_apart(
     logs: &[u8],
     exps: &[u8],
@@ -176,11 +161,10 @@ fn fill_apart(
     ensures { λ _. ⌜ now (gains .exit) ≡ gainRow e (now (at .entry)) target ⌝ }
 {
     let whole = apart_exponent(logs, e, at, target);
-    let x = point(Node(target)).0;
     let m = at.len();
     let mut j = 0;
     while j < m {
-        let parts = reduced(wide(weights[j]) + exponent(logs, x ^ point(Node(at[j])).0));
+        let parts = reduced(wide(weights[j]) + exponent(logs, target ^ at[j]));
         gains[j] = exps[reduced(whole + opposite(parts))];
         j += 1;
     }
@@ -246,14 +230,14 @@ fn add_row_shares(
 fn add_row_share(logs: &[u8], exps: &[u8], at: &[u8], gains: &[u8], leading: &mut [u8])
     requires { ⌜ LogTable (now logs) ⌝ }
     requires { ⌜ PowerTable (now exps) ⌝ }
-    requires { ⌜ Points (pointsOf (now at)) ⌝ }
+    requires { ⌜ Points (now at) ⌝ }
     requires { ⌜ length (now gains) ≡ length (now at) ⌝ }
     ensures { λ _. ⌜ now (leading .exit) ≡ withShare (length (now (at .entry))) (now (at .entry)) (now (gains .entry)) (now (leading .entry)) ⌝ }
 {
     let m = at.len();
     let mut o = 0;
     while o < m {
-        add_powers(logs, exps, gains[o], point(Node(at[o])).0, leading);
+        add_powers(logs, exps, gains[o], at[o], leading);
         o += 1;
     }
 }

@@ -1,8 +1,9 @@
-// Small matrices of coefficients, found once for each call and then applied to blocks: powers of points, and what takes values at some nodes to
+// Small matrices of coefficients, found once for each call and then applied to blocks: powers of points, and what takes values at some points to
 // coefficients (module reading) or to values at others (module completing). Both are written down by Lagrange's basis polynomials, the one by their
 // coefficients, the other by their values. A polynomial has no constant term here: its coefficients belong to the powers from 1 on.
 mod completing;
 mod distances;
+mod listing;
 mod logarithms;
 mod raising;
 mod reading;
@@ -10,29 +11,31 @@ mod reading;
 use base::is_product;
 use field::logs;
 use field::powers;
-use params::NodeSet;
+use listing::different;
+use listing::lists;
 ghost use Rattle.coefficients.specs.Coefficients.{PowersPost, ReadsPost, ExtendsPost};
 
-// out := a row for each of the nodes 1, .., n: the powers 1, .., m of its point. Where n exceeds 32, or out has no room for just these, nothing is written.
-pub fn power_rows(n: usize, m: usize, out: &mut [u8])
-    ensures { λ _. ⌜ PowersPost n m (now (out .entry)) (now (out .exit)) ⌝ }
+// out := a row for each point: its powers 1, .., m. Where out has not just the length of these rows, nothing is written.
+pub fn power_rows(points: &[u8], m: usize, out: &mut [u8])
+    ensures { λ _. ⌜ PowersPost (now (points .entry)) m (now (out .entry)) (now (out .exit)) ⌝ }
 {
-    if 32 < n {
+    if !is_product(out.len(), points.len(), m) {
         return;
     }
-    if !is_product(out.len(), n, m) {
-        return;
-    }
-    raising::fill_nodes(&powers(), &raising::low_exponents(), n, m, out);
+    raising::fill_rows(&logs(), &powers(), points, m, out);
 }
 
-// rows := the coefficients that take the values at the set's nodes to the k leading coefficients of a polynomial with as many coefficients as there are nodes:
-// column i has those of the basis polynomial of the set's node i. Where k exceeds the number of nodes, or rows has no room for just these, nothing is written.
-pub fn reading_rows(k: usize, from: NodeSet, rows: &mut [u8])
-    ensures { λ _. ⌜ ReadsPost k (from .0) (now (rows .entry)) (now (rows .exit)) ⌝ }
+// rows := the coefficients that take the values at the points to the k leading coefficients of a polynomial with as many coefficients as there are points:
+// column i has those of the basis polynomial of point i. Where k exceeds the number of points, these are more than 32, one of them is 00 or two are equal, or rows
+// has not just the length of these rows, nothing is written.
+pub fn reading_rows(k: usize, points: &[u8], rows: &mut [u8])
+    ensures { λ _. ⌜ ReadsPost k (now (points .entry)) (now (rows .entry)) (now (rows .exit)) ⌝ }
 {
-    let count = from.size();
+    let count = points.len();
     if k == 0 {
+        return;
+    }
+    if 32 < count {
         return;
     }
     if count < k {
@@ -41,43 +44,40 @@ pub fn reading_rows(k: usize, from: NodeSet, rows: &mut [u8])
     if rows.len() != k * count {
         return;
     }
-    let mut nodes = [0u8; 32];
-    from.list(&mut nodes);
-    reading::basis_rows(&logs(), &powers(), &nodes[..count], k, rows);
+    if !different(points) {
+        return;
+    }
+    reading::basis_rows(&logs(), &powers(), points, k, rows);
 }
 
-// A polynomial with e leading coefficients, and as many others as `at` has nodes, is settled by the leading ones and its values at these nodes. leading and
-// gains become the coefficients that take them to its values at the targets' nodes. Where e exceeds 32, or one has no room for just these, nothing is
-// written.
-pub fn completion_rows(
-    e: usize,
-    at: NodeSet,
-    targets: NodeSet,
-    leading: &mut [u8],
-    gains: &mut [u8],
-)
-    ensures { λ _. ⌜ ExtendsPost e (at .0) (targets .0) (now (leading .entry)) (now (gains .entry)) (now (leading .exit)) (now (gains .exit)) ⌝ }
+// A polynomial with e leading coefficients, and as many others as `at` has points, is settled by the leading ones and its values at these points. leading and
+// gains become the coefficients that take them to its values at the targets. Where e, the number of points or that of targets exceeds 32, a point or a target is
+// 00, two points are equal, or leading or gains has not just the length of its rows, nothing is written.
+pub fn completion_rows(e: usize, at: &[u8], targets: &[u8], leading: &mut [u8], gains: &mut [u8])
+    ensures { λ _. ⌜ ExtendsPost e (now (at .entry)) (now (targets .entry)) (now (leading .entry)) (now (gains .entry)) (now (leading .exit)) (now (gains .exit)) ⌝ }
 {
+    let m = at.len();
+    let count = targets.len();
     if 32 < e {
         return;
     }
-    let mut known = [0u8; 32];
-    let m = at.list(&mut known);
-    let mut wanted = [0u8; 32];
-    let count = targets.list(&mut wanted);
+    if 32 < m {
+        return;
+    }
+    if 32 < count {
+        return;
+    }
     if leading.len() != count * e {
         return;
     }
     if gains.len() != count * m {
         return;
     }
-    completing::complete(
-        &logs(),
-        &powers(),
-        e,
-        &known[..m],
-        &wanted[..count],
-        leading,
-        gains,
-    );
+    if !different(at) {
+        return;
+    }
+    if lists(targets, 0) {
+        return;
+    }
+    completing::complete(&logs(), &powers(), e, at, targets, leading, gains);
 }

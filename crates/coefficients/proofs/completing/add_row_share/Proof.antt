@@ -1,12 +1,11 @@
--- After o turns the first o nodes have their share. Assumes nothing.
-use mathlib.Core.Path.{_≡_, sym, ap, _∙_}
+-- After o turns the first o points have their share. Assumes nothing.
+use mathlib.Core.Path.{_≡_, ap, _∙_}
 use Prim.Native.Nat.{ℕ, _-_, _≤_}
 use native.Mathlib.Omega.{arith}
 use borrow.Author.Needs.{needs}
 use denote.Ref.{now}
 use lib.ListN.{length}
 use Rattle.coefficients.specs.Working.{withShare}
-use Rattle.coefficients.proofs.Values.{point-nonzero}
 use Rattle.coefficients.proofs.Shares.{share-none, share-length, share-more}
 use Rattle.coefficients.proofs.completing.add_row_share.Statement.{statement}
 use Rattle.coefficients.proofs.completing.add_row_share.Tie as tie
@@ -23,16 +22,13 @@ loop-holds c = (omega arith, share-none _ _ _)
 shared-slice-read-add-powers : tie.Need-shared-slice-read-add-powers Inv-loop μ-loop
 shared-slice-read-add-powers c = search needs
 
-shared-slice-read-t14 : tie.Need-shared-slice-read-t14 Inv-loop μ-loop
-shared-slice-read-t14 c = search needs
-
-point-requires : tie.Need-point-requires Inv-loop μ-loop
-point-requires c κs = search needs
+shared-slice-read-add-powers-2 : tie.Need-shared-slice-read-add-powers-2 Inv-loop μ-loop
+shared-slice-read-add-powers-2 c = search needs
 
 add-powers-requires : tie.Need-add-powers-requires Inv-loop μ-loop
 add-powers-requires c κs =
-    let s = c .before .before .before .before .before .before .before .before .before .before .before in
-    (s .pre .0, (s .pre .1 .0, λ z. point-nonzero (now (s .args .at)) (s .pre .1 .1 .0) (c .before .before .before .before .before .loop .o) (omega arith) (sym (c .before .point .ensures) ∙ z)))
+    let s = c .before .before .before .before .before .before .before .before .before .before in
+    (s .pre .0, (s .pre .1 .0, s .pre .1 .1 .0 .nonzero (c .before .before .before .before .loop .o) (omega arith)))
 
 add-o : tie.Need-add-o Inv-loop μ-loop
 add-o c = search needs
@@ -42,8 +38,8 @@ loop-less c = search needs
 
 loop-again : tie.Need-loop-again Inv-loop μ-loop
 loop-again c =
-    let l = c .before .before .before .before .before .before .before .before .loop in
-    (omega arith, share-more (l .o) _ _ _ _ (l .leading) _ (c .before .before .before .before .point .ensures) (l .inv .1) (c .before .before .add-powers .ensures))
+    let l = c .before .before .before .before .before .before .before .loop in
+    (omega arith, share-more (l .o) _ _ _ (l .leading) _ (l .inv .1) (c .before .before .add-powers .ensures))
 
 same-length : tie.Need-same-length Inv-loop μ-loop
 same-length c = share-length (c .before .loop .o) _ _ _ _ (c .before .loop .inv .1)
@@ -62,8 +58,7 @@ add-row-share-spec =
     μ-loop
     loop-holds
     shared-slice-read-add-powers
-    shared-slice-read-t14
-    point-requires
+    shared-slice-read-add-powers-2
     add-powers-requires
     add-o
     loop-less

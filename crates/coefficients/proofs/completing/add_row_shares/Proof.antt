@@ -63,7 +63,7 @@ part-add-row-share-end-2 c = omega (arith, row-end (c .before), c .before .befor
 add-row-share-requires : tie.Need-add-row-share-requires Inv-loop μ-loop
 add-row-share-requires c κs =
     let s = c .before .before .before .before .before .before .before .before .before in
-    (s .pre .0, (s .pre .1 .0, (s .pre .1 .1 .points, length-partOf (length (now (s .args .at))) (c .before .before .before .loop .t) (now (s .args .gains)) (gains-end (c .before .before)))))
+    (s .pre .0, (s .pre .1 .0, (s .pre .1 .1 .tell, length-partOf (length (now (s .args .at))) (c .before .before .before .loop .t) (now (s .args .gains)) (gains-end (c .before .before)))))
 
 add-t : tie.Need-add-t Inv-loop μ-loop
 add-t c = search needs

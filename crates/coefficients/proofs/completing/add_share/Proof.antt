@@ -1,7 +1,7 @@
--- The powers are of at most 32 nodes and exponents: their area is a number, and there is room for them. Assumes nothing.
+-- The powers are of at most 32 points and exponents: their area is a number, and there is room for them. Assumes nothing.
 use native.Mathlib.Omega.{arith}
 use borrow.Author.Needs.{needs}
-use Rattle.coefficients.proofs.Laws.{areas-fit}
+use Rattle.base.proofs.Buffers.{areas-fit}
 use Rattle.coefficients.proofs.completing.add_share.Statement.{statement}
 use Rattle.coefficients.proofs.completing.add_share.Tie as tie
 

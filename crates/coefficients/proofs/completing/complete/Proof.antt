@@ -14,7 +14,7 @@ gain-rows-requires c κs = search needs
 add-share-requires : tie.Need-add-share-requires
 add-share-requires c κs =
     let can = c .before .before .before .before .before .before .before .before .before .before .before .before .before .before .before .before .pre .1 .1 in
-    (c .before .before .before .before .before .before .before .before .before .before .before .before .before .before .before .before .pre .0, (c .before .before .before .before .before .before .before .before .before .before .before .before .before .before .before .before .pre .1 .0, record { few = can .few; most = can .most; e-most = can .e-most; points = can .points; gains-room = search needs; room = search needs }))
+    (c .before .before .before .before .before .before .before .before .before .before .before .before .before .before .before .before .pre .0, (c .before .before .before .before .before .before .before .before .before .before .before .before .before .before .before .before .pre .1 .0, record { few = can .few; most = can .most; e-most = can .e-most; tell = can .tell; gains-room = search needs; room = search needs }))
 
 same-length : tie.Need-same-length
 same-length c = search needs

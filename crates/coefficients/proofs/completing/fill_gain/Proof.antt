@@ -1,4 +1,4 @@
--- The unit row for a node of `at`; for any other, quotients. Assumes nothing.
+-- The unit row for one of the points; for any other target, quotients. Assumes nothing.
 use mathlib.Core.Path.{_∙_}
 use borrow.Author.Needs.{needs}
 use denote.Ref.{now}

@@ -7,16 +7,14 @@ use lib.ListN.{length, getD}
 use Rattle.base.specs.Parts.{Blocked}
 use Rattle.base.proofs.Parts.{blocked-none, blocked-more, row-ends, length-partOf}
 use Rattle.interpolation.specs.Lagrange.{gain}
-use Rattle.code.specs.Code.{point}
-use Rattle.coefficients.specs.Working.{pointsOf, gainRows}
+use Rattle.coefficients.specs.Working.{gainRows}
 use Rattle.coefficients.proofs.Rows.{blocked-whole}
-use Rattle.coefficients.proofs.Values.{point-nonzero}
 use Rattle.coefficients.proofs.Gains.{row-gains}
 use Rattle.coefficients.proofs.completing.fill_gains.Statement.{statement}
 use Rattle.coefficients.proofs.completing.fill_gains.Tie as tie
 
 abbrev Inv-loop : tie.InvT-loop
-Inv-loop logs exps e at weights targets gains₀ m t₀ gains t = (t ≤ length targets) × Blocked (length at) (length targets) (λ i o. gain e (pointsOf at) (point (getD at o 0)) (point (getD targets i 0))) t gains₀ gains
+Inv-loop logs exps e at weights targets gains₀ m t₀ gains t = (t ≤ length targets) × Blocked (length at) (length targets) (λ i o. gain e at (getD at o 0) (getD targets i 0)) t gains₀ gains
 
 abbrev μ-loop : tie.MeasureT-loop
 μ-loop logs exps e at weights targets gains₀ m t₀ gains t = length targets - t
@@ -57,7 +55,7 @@ fill-gain-requires c κs =
         record {
           formula = s .pre .1 .1 .0 .formula;
           weighed = s .pre .1 .1 .1;
-          nonzero = point-nonzero (now (s .args .targets)) (s .pre .1 .1 .0 .targets-points) (l .t) (omega arith);
+          nonzero = s .pre .1 .1 .0 .nonzero (l .t) (omega arith);
           room = length-partOf (length (now (s .args .at))) (l .t) (l .gains) (omega (arith, row-end (c .before .before), l .inv .1 .same));
         },
       ),

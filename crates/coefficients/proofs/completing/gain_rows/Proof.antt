@@ -23,7 +23,7 @@ same-length c = search needs
 returns : tie.Need-returns
 returns c =
     let s = c .before .before .before .before .before .before .before .before .before .before .before .before .before in
-    carries (s .args .e) (now (s .args .at)) (now (s .args .targets)) _ (s .pre .1 .1 .formula .points) (c .before .before .fill-gains .ensures)
+    carries (s .args .e) (now (s .args .at)) (now (s .args .targets)) _ (s .pre .1 .1 .formula .tell) (c .before .before .fill-gains .ensures)
 
 pub gain-rows-spec : {M : Type 1} → statement M
 gain-rows-spec =

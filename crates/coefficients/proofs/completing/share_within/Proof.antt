@@ -1,11 +1,12 @@
--- The gains times the powers of the nodes' points, added. Assumes nothing.
+-- The gains times the powers of the points, added. Assumes nothing.
 use mathlib.Core.Path.{_≡_, sym, ap, _∙_}
 use Prim.Native.Nat.{_*_}
 use borrow.Author.Needs.{needs}
 use denote.Ref.{now}
 use lib.ListN.{length}
 use lib.Seq.{length-take-le}
-use Rattle.coefficients.proofs.Laws.{length-powerRows, first-length, buffer-fits, buffer-count}
+use Rattle.base.proofs.Buffers.{buffer-fits, buffer-count}
+use Rattle.coefficients.proofs.Laws.{length-powerRows, first-length}
 use Rattle.coefficients.proofs.Completion.{shared}
 use Rattle.coefficients.proofs.completing.share_within.Statement.{statement}
 use Rattle.coefficients.proofs.completing.share_within.Tie as tie
@@ -20,7 +21,9 @@ slice-aggregate-fill-rows : tie.Need-slice-aggregate-fill-rows
 slice-aggregate-fill-rows c = sym (length-take-le _ (now (c .before .before .before .before .before .before .before .args .powers)) (c .before .before .before .before .before .before .before .pre .1 .1 .1))
 
 fill-rows-requires : tie.Need-fill-rows-requires
-fill-rows-requires c κs = (c .before .before .before .before .before .before .before .pre .0, (c .before .before .before .before .before .before .before .pre .1 .0, (c .before .before .before .before .before .before .before .pre .1 .1 .0 .points, length-take-le _ (now (c .before .before .before .before .before .before .before .args .powers)) (c .before .before .before .before .before .before .before .pre .1 .1 .1))))
+fill-rows-requires c κs =
+    let s = c .before .before .before .before .before .before .before in
+    (s .pre .0, (s .pre .1 .0, length-take-le _ (now (s .args .powers)) (s .pre .1 .1 .1)))
 
 -- how many bytes the powers are
 powers-back : (c : tie.After-fill-rows) → length (c .fill-rows .last .1 .1 .1 .1 .0) ≡ length (now (c .before .before .before .before .before .before .before .before .args .at)) * c .before .before .before .before .before .before .before .before .args .e

@@ -6,7 +6,6 @@ use borrow.Author.Needs.{needs}
 use denote.Ref.{now}
 use lib.ListN.{length, length-set}
 use Rattle.coefficients.specs.Working.{Weighed}
-use Rattle.coefficients.proofs.Values.{point-nonzero}
 use Rattle.coefficients.proofs.Gains.{weighed-none, weighed-more}
 use Rattle.coefficients.proofs.completing.weigh.Statement.{statement}
 use Rattle.coefficients.proofs.completing.weigh.Tie as tie
@@ -26,7 +25,7 @@ shared-slice-read-apart-exponent c = search needs
 apart-exponent-requires : tie.Need-apart-exponent-requires Inv-loop μ-loop
 apart-exponent-requires c κs =
     let s = c .before .before .before .before .before .before in
-    (s .pre .0, (s .pre .1 .0, point-nonzero (now (s .args .at)) (s .pre .1 .0 .points) _ (omega arith)))
+    (s .pre .0, (s .pre .1 .0, s .pre .1 .0 .tell .nonzero _ (omega arith)))
 
 cast-weights : tie.Need-cast-weights Inv-loop μ-loop
 cast-weights c = search needs

@@ -1,53 +1,45 @@
 -- After j turns the sum is the exponent of the power and the first j factors. Assumes nothing.
-use mathlib.Core.Path.{_≡_, sym, ap, _∙_}
-use Prim.Native.Nat.{ℕ, suc, _+_, _*_, _-_, _≤_}
+use mathlib.Core.Path.{_≡_}
+use Prim.Native.Nat.{suc, _+_, _*_, _-_, _≤_}
 use native.Mathlib.Omega.{arith}
 use borrow.Author.Needs.{needs}
 use denote.Ref.{now}
 use lib.ListN.{length, getD}
 use Rattle.field.specs.Field.{mul, pow}
-use Rattle.interpolation.specs.Lagrange.{product, factor, apart}
-use Rattle.code.specs.Code.{point}
-use Rattle.coefficients.specs.Working.{pointsOf}
+use Rattle.interpolation.specs.Lagrange.{product, factor}
 use Rattle.coefficients.proofs.Gains.{power-small, apart-none, apart-more, apart-all}
 use Rattle.coefficients.proofs.distances.apart_exponent.Statement.{statement}
 use Rattle.coefficients.proofs.distances.apart_exponent.Tie as tie
 
 abbrev Inv-loop : tie.InvT-loop
-Inv-loop logs e at node x m sum₀ j₀ sum j = (j ≤ length at) × (sum ≤ 254 * 33 + j * 254) × (pow 2 sum ≡ mul (pow x (suc e)) (product j (λ k. factor x x (point (getD at k 0)))))
+Inv-loop logs e at x m sum₀ j₀ sum j = (j ≤ length at) × (sum ≤ 254 * 33 + j * 254) × (pow 2 sum ≡ mul (pow x (suc e)) (product j (λ k. factor x x (getD at k 0))))
 
 abbrev μ-loop : tie.MeasureT-loop
-μ-loop logs e at node x m sum₀ j₀ sum j = length at - j
-
-point-requires : tie.Need-point-requires Inv-loop μ-loop
-point-requires c κs = search needs
+μ-loop logs e at x m sum₀ j₀ sum j = length at - j
 
 exponent-requires : tie.Need-exponent-requires Inv-loop μ-loop
-exponent-requires c κs = (c .before .before .before .pre .0, λ z. c .before .before .before .pre .1 .1 (sym (c .point .ensures) ∙ z))
+exponent-requires c κs = search needs
 
 add-sum : tie.Need-add-sum Inv-loop μ-loop
-add-sum c = omega (arith, c .before .before .before .before .pre .1 .0 .e-most)
+add-sum c = omega (arith, c .before .before .before .pre .1 .0 .e-most)
 
 mul-sum : tie.Need-mul-sum Inv-loop μ-loop
-mul-sum c = omega (arith, power-small (c .exponent .result) (c .before .before .before .before .args .e) (c .exponent .ensures .0) (c .before .before .before .before .pre .1 .0 .e-most))
+mul-sum c = omega (arith, power-small (c .exponent .result) (c .before .before .before .args .e) (c .exponent .ensures .0) (c .before .before .before .pre .1 .0 .e-most))
 
 loop-holds : tie.Need-loop-holds Inv-loop μ-loop
 loop-holds c =
-    let s = c .before .before .before .before in
+    let s = c .before .before .before in
     let l = c .exponent in
     (omega arith, omega (arith, power-small (l .result) (s .args .e) (l .ensures .0) (s .pre .1 .0 .e-most)), apart-none (s .args .e) _ (l .result) _ (l .ensures .1))
 
-shared-slice-read-t17 : tie.Need-shared-slice-read-t17 Inv-loop μ-loop
-shared-slice-read-t17 c = search needs
-
-point-requires-2 : tie.Need-point-requires-2 Inv-loop μ-loop
-point-requires-2 c κs = search needs
+shared-slice-read-difference : tie.Need-shared-slice-read-difference Inv-loop μ-loop
+shared-slice-read-difference c = search needs
 
 difference-requires : tie.Need-difference-requires Inv-loop μ-loop
 difference-requires c κs = search needs
 
 add-sum-2 : tie.Need-add-sum-2 Inv-loop μ-loop
-add-sum-2 c = omega (arith, c .before .before .before .before .before .before .before .before .before .pre .1 .0 .most)
+add-sum-2 c = omega (arith, c .before .before .before .before .before .before .before .pre .1 .0 .most)
 
 add-j : tie.Need-add-j Inv-loop μ-loop
 add-j c = search needs
@@ -57,15 +49,13 @@ loop-less c = search needs
 
 loop-again : tie.Need-loop-again Inv-loop μ-loop
 loop-again c =
-    let l = c .before .before .before .before .loop in
-    (omega arith, omega arith, apart-more _ (l .sum) (c .difference .result) (l .j) _ (l .inv .2) (c .difference .ensures .1 ∙ ap (factor _ _) (c .before .point2 .ensures)))
+    let l = c .before .before .before .loop in
+    (omega arith, omega arith, apart-more _ (l .sum) (c .difference .result) (l .j) _ (l .inv .2) (c .difference .ensures .1))
 
 returns : tie.Need-returns Inv-loop μ-loop
 returns c =
     let l = c .before .loop in
-    let s = c .before .before .before .before .before .before .args in
-    let r = apart-all (s .e) (now (s .at)) _ (l .sum) (l .j) (l .inv .0) (omega arith) (l .inv .2) in
-    (r .0, r .1 ∙ ap (λ (x : ℕ). apart (s .e) (pointsOf (now (s .at))) x x) (c .before .before .before .point .ensures))
+    apart-all (c .before .before .before .before .before .args .e) (now (c .before .before .before .before .before .args .at)) _ (l .sum) (l .j) (l .inv .0) (omega arith) (l .inv .2)
 
 pub apart-exponent-spec : {M : Type 1} → statement M
 apart-exponent-spec =
@@ -73,13 +63,11 @@ apart-exponent-spec =
     (tie.spec
     Inv-loop
     μ-loop
-    point-requires
     exponent-requires
     add-sum
     mul-sum
     loop-holds
-    shared-slice-read-t17
-    point-requires-2
+    shared-slice-read-difference
     difference-requires
     add-sum-2
     add-j

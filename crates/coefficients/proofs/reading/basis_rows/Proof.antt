@@ -1,4 +1,4 @@
--- The product of all factors, as far as it is wanted, and a column for each node. Assumes nothing.
+-- The product of all factors, as far as it is wanted, and a column for each point. Assumes nothing.
 use mathlib.Core.Path.{_≡_, sym, ap, _∙_, subst⁻¹}
 use Prim.Native.Nat.{ℕ, _*_}
 use native.Mathlib.Omega.{arith}
@@ -7,7 +7,7 @@ use denote.Ref.{now}
 use lib.ListN.{length, replicate}
 use lib.Seq.{length-take-le}
 use Rattle.coefficients.specs.Working.{Lowest, BasisRows}
-use Rattle.coefficients.proofs.Laws.{zeros-front, buffer-front, buffer-fits, buffer-count}
+use Rattle.base.proofs.Buffers.{zeros-front, buffer-front, buffer-fits, buffer-count}
 use Rattle.coefficients.proofs.reading.basis_rows.Statement.{statement}
 use Rattle.coefficients.proofs.reading.basis_rows.Tie as tie
 
@@ -20,7 +20,7 @@ slice-aggregate-multiply-out c = sym (length-take-le _ (replicate 32 0) (array-b
 multiply-out-requires : tie.Need-multiply-out-requires
 multiply-out-requires c κs =
     let s = c .before .before .before .before .before in
-    (s .pre .0, (s .pre .1 .0, (s .pre .1 .1 .points, (omega (arith, s .pre .1 .1 .some, slice-aggregate-multiply-out c), zeros-front _ 32 (array-borrow-prefix-product (c .before))))))
+    (s .pre .0, (s .pre .1 .0, (s .pre .1 .1 .tell, (omega (arith, s .pre .1 .1 .some, slice-aggregate-multiply-out c), zeros-front _ 32 (array-borrow-prefix-product (c .before))))))
 
 -- how many coefficients come back
 back : (c : tie.After-multiply-out) → length (c .multiply-out .last .1 .1 .1 .0) ≡ c .before .before .before .before .before .before .args .count
@@ -42,8 +42,8 @@ fill-columns-requires c κs =
       (
         s .pre .1 .0,
         (
-          record { some = omega (arith, r .some, n); few = omega (arith, r .few, n); most = r .most; points = r .points; room = r .room ∙ ap (λ (k : ℕ). k * length (now (s .args .nodes))) n },
-          subst⁻¹ (Lowest (now (s .args .nodes)) (length (now (s .args .nodes)))) (buffer-front _ (m .multiply-out .last .1 .1 .1 .0) _ (back m)) (m .multiply-out .ensures),
+          record { some = omega (arith, r .some, n); few = omega (arith, r .few, n); most = r .most; tell = r .tell; room = r .room ∙ ap (λ (k : ℕ). k * length (now (s .args .points))) n },
+          subst⁻¹ (Lowest (now (s .args .points)) (length (now (s .args .points)))) (buffer-front _ (m .multiply-out .last .1 .1 .1 .0) _ (back m)) (m .multiply-out .ensures),
         ),
       ),
     )
@@ -55,7 +55,7 @@ returns : tie.Need-returns
 returns c =
     let s = c .before .before .before .before .before .before .before .before .before .before .before .before in
     let f = c .before .before in
-    subst⁻¹ (λ (k : ℕ). BasisRows k (now (s .args .nodes)) (length (now (s .args .nodes))) (f .fill-columns .last .1 .1 .1 .1 .0)) (slice-aggregate-fill-columns (f .before .before)) (f .fill-columns .ensures)
+    subst⁻¹ (λ (k : ℕ). BasisRows k (now (s .args .points)) (length (now (s .args .points))) (f .fill-columns .last .1 .1 .1 .1 .0)) (slice-aggregate-fill-columns (f .before .before)) (f .fill-columns .ensures)
 
 pub basis-rows-spec : {M : Type 1} → statement M
 basis-rows-spec =

@@ -6,45 +6,40 @@ use borrow.Author.Needs.{needs}
 use denote.Ref.{now}
 use lib.ListN.{length, getD, set, length-set}
 use Rattle.base.proofs.Seq.{cell-lt}
+use Rattle.base.proofs.Buffers.{areas-fit}
 use Rattle.field.specs.Field.{add, mul, pow}
 use Rattle.field.proofs.Exponents.{power-at}
 use Rattle.interpolation.specs.Lagrange.{apart}
-use Rattle.code.specs.Code.{point}
-use Rattle.coefficients.specs.Working.{pointsOf, productAt, basis}
-use Rattle.coefficients.proofs.Laws.{areas-fit}
-use Rattle.coefficients.proofs.Values.{point-nonzero}
+use Rattle.coefficients.specs.Working.{productAt, basis}
 use Rattle.coefficients.proofs.Basis.{lead-first, lead-next, Climbed, climbed-none, climbed-here, climbed-more, climbed-on, climbed-all}
 use Rattle.coefficients.proofs.reading.fill_column.Statement.{statement}
 use Rattle.coefficients.proofs.reading.fill_column.Tie as tie
 
 abbrev Inv-loop : tie.InvT-loop
-Inv-loop logs exps nodes i first product rows₀ q back scale lead₀ j₀ rows lead j = (0 < j) × (j ≤ length product) × (lead ≡ basis nodes i (j - 1)) × Climbed nodes i j rows₀ rows
+Inv-loop logs exps points i first product rows₀ q back scale lead₀ j₀ rows lead j = (0 < j) × (j ≤ length product) × (lead ≡ basis points i (j - 1)) × Climbed points i j rows₀ rows
 
 abbrev μ-loop : tie.MeasureT-loop
-μ-loop logs exps nodes i first product rows₀ q back scale lead₀ j₀ rows lead j = length product - j
+μ-loop logs exps points i first product rows₀ q back scale lead₀ j₀ rows lead j = length product - j
 
-shared-slice-read-apart-exponent : tie.Need-shared-slice-read-apart-exponent Inv-loop μ-loop
-shared-slice-read-apart-exponent c = search needs
-
-point-requires : tie.Need-point-requires Inv-loop μ-loop
-point-requires c κs = search needs
+shared-slice-read-exponent : tie.Need-shared-slice-read-exponent Inv-loop μ-loop
+shared-slice-read-exponent c = search needs
 
 exponent-requires : tie.Need-exponent-requires Inv-loop μ-loop
 exponent-requires c κs =
-    let s = c .before .before .before .before .before .before .before in
-    (s .pre .0, λ e. point-nonzero (now (s .args .nodes)) (s .pre .1 .1 .0 .points) (s .args .i) (s .pre .1 .1 .1 .0) (sym (c .point .ensures) ∙ e))
+    let s = c .before .before .before .before .before .before in
+    (s .pre .0, s .pre .1 .1 .0 .tell .nonzero (s .args .i) (s .pre .1 .1 .1 .0))
 
 opposite-requires : tie.Need-opposite-requires Inv-loop μ-loop
 opposite-requires c κs = search needs
 
-shared-slice-read-apart-exponent-2 : tie.Need-shared-slice-read-apart-exponent-2 Inv-loop μ-loop
-shared-slice-read-apart-exponent-2 c = search needs
+shared-slice-read-apart-exponent : tie.Need-shared-slice-read-apart-exponent Inv-loop μ-loop
+shared-slice-read-apart-exponent c = search needs
 
 apart-exponent-requires : tie.Need-apart-exponent-requires Inv-loop μ-loop
 apart-exponent-requires c κs =
-    let s = c .before .before .before .before .before .before .before .before .before .before in
+    let s = c .before .before .before .before .before .before .before .before .before in
     let r = s .pre .1 .1 .0 in
-    (s .pre .0, (record { e-most = omega arith; most = r .most; points = r .points }, point-nonzero (now (s .args .nodes)) (r .points) (s .args .i) (s .pre .1 .1 .1 .0)))
+    (s .pre .0, (record { e-most = omega arith; most = r .most; tell = r .tell }, r .tell .nonzero (s .args .i) (s .pre .1 .1 .1 .0)))
 
 opposite-requires-2 : tie.Need-opposite-requires-2 Inv-loop μ-loop
 opposite-requires-2 c κs = search needs
@@ -66,42 +61,38 @@ shared-slice-read-lead c = search needs
 
 -- where the call began, as the loop sees it
 abbrev start : tie.After-shared-slice-known7 Inv-loop μ-loop → tie.Start Inv-loop μ-loop
-start c = c .before .before .before .before .before .before .before .before .before .before .before .before .before .before .before
+start c = c .before .before .before .before .before .before .before .before .before .before .before .before .before .before
 
 -- entry j of the column is within the rows
-place : (c : tie.After-shared-slice-known7 Inv-loop μ-loop) (j : ℕ) → j < length (now (start c .args .product)) → j * length (now (start c .args .nodes)) + start c .args .i < length (now (start c .args .rows))
+place : (c : tie.After-shared-slice-known7 Inv-loop μ-loop) (j : ℕ) → j < length (now (start c .args .product)) → j * length (now (start c .args .points)) + start c .args .i < length (now (start c .args .rows))
 place c j h =
     let s = start c in
-    subst (λ (k : ℕ). j * length (now (s .args .nodes)) + s .args .i < k) (sym (s .pre .1 .1 .0 .room)) (cell-lt _ _ j (s .args .i) h (s .pre .1 .1 .1 .0))
+    subst (λ (k : ℕ). j * length (now (s .args .points)) + s .args .i < k) (sym (s .pre .1 .1 .0 .room)) (cell-lt _ _ j (s .args .i) h (s .pre .1 .1 .1 .0))
 
 -- .. and these have no more than 1,024 entries
 small : (c : tie.After-shared-slice-known7 Inv-loop μ-loop) → length (now (start c .args .rows)) ≤ 1024
 small c = let r = start c .pre .1 .1 .0 in subst (λ (k : ℕ). k ≤ 1024) (sym (r .room)) (areas-fit _ _ (omega (arith, r .few, r .most)) (r .most))
 
--- the exponent that divides by the node's point
-inverse : (c : tie.After-shared-slice-known7 Inv-loop μ-loop) → mul (point (getD (now (start c .args .nodes)) (start c .args .i) 0)) (pow 2 (c .before .before .before .before .before .before .opposite .result)) ≡ 1
-inverse c =
-    let o = c .before .before .before .before .before .before in
-    ap (λ (k : ℕ). mul k (pow 2 (o .opposite .result))) (sym (o .before .exponent .ensures .1 ∙ o .before .before .point .ensures)) ∙ o .opposite .ensures .1
+-- the exponent that divides by the point
+inverse : (c : tie.After-shared-slice-known7 Inv-loop μ-loop) → mul (getD (now (start c .args .points)) (start c .args .i) 0) (pow 2 (c .before .before .before .before .before .before .opposite .result)) ≡ 1
+inverse c = ap (λ (k : ℕ). mul k (pow 2 (c .before .before .before .before .before .before .opposite .result))) (sym (c .before .before .before .before .before .before .before .exponent .ensures .1)) ∙ c .before .before .before .before .before .before .opposite .ensures .1
 
 -- .. and the one that divides by what the quotient, times z, is there
-weight : (c : tie.After-shared-slice-known7 Inv-loop μ-loop) → mul (apart 0 (pointsOf (now (start c .args .nodes))) (point (getD (now (start c .args .nodes)) (start c .args .i) 0)) (point (getD (now (start c .args .nodes)) (start c .args .i) 0))) (pow 2 (c .before .before .before .opposite2 .result)) ≡ 1
-weight c =
-    let o = c .before .before .before in
-    ap (λ (k : ℕ). mul k (pow 2 (o .opposite2 .result))) (sym (o .before .apart-exponent .ensures .1)) ∙ o .opposite2 .ensures .1
+weight : (c : tie.After-shared-slice-known7 Inv-loop μ-loop) → mul (apart 0 (now (start c .args .points)) (getD (now (start c .args .points)) (start c .args .i) 0) (getD (now (start c .args .points)) (start c .args .i) 0)) (pow 2 (c .before .before .before .opposite2 .result)) ≡ 1
+weight c = ap (λ (k : ℕ). mul k (pow 2 (c .before .before .before .opposite2 .result))) (sym (c .before .before .before .before .apart-exponent .ensures .1)) ∙ c .before .before .before .opposite2 .ensures .1
 
 -- the first entry is written
-lead-is : (c : tie.After-shared-slice-known7 Inv-loop μ-loop) → getD (now (start c .args .exps)) (c .before .reduced2 .result) 0 ≡ basis (now (start c .args .nodes)) (start c .args .i) 0
+lead-is : (c : tie.After-shared-slice-known7 Inv-loop μ-loop) → getD (now (start c .args .exps)) (c .before .reduced2 .result) 0 ≡ basis (now (start c .args .points)) (start c .args .i) 0
 lead-is c =
     let s = start c in
-    let r = c .before in
-    power-at (now (s .args .exps)) (s .pre .1 .0) (r .reduced2 .result) (r .reduced2 .ensures .0)
-    ∙ lead-first (now (s .args .nodes)) (s .pre .1 .1 .0 .points) (s .args .i) (s .pre .1 .1 .1 .0) _ _ (inverse c) (weight c) (s .args .first) (r .before .reduced .result) _ (s .pre .1 .1 .1 .1 .0 .1) (r .before .reduced .ensures .1) (r .reduced2 .ensures .1)
+    let r = c .before .reduced2 in
+    power-at (now (s .args .exps)) (s .pre .1 .0) (r .result) (r .ensures .0)
+    ∙ lead-first (now (s .args .points)) (s .pre .1 .1 .0 .tell) (s .args .i) (s .pre .1 .1 .1 .0) _ _ (inverse c) (weight c) (s .args .first) (c .before .before .reduced .result) _ (s .pre .1 .1 .1 .1 .0 .1) (c .before .before .reduced .ensures .1) (r .ensures .1)
 
-one : (c : tie.After-shared-slice-known7 Inv-loop μ-loop) → Climbed (now (start c .args .nodes)) (start c .args .i) 1 (now (start c .args .rows)) (set (now (start c .args .rows)) (start c .args .i) (getD (now (start c .args .exps)) (c .before .reduced2 .result) 0))
+one : (c : tie.After-shared-slice-known7 Inv-loop μ-loop) → Climbed (now (start c .args .points)) (start c .args .i) 1 (now (start c .args .rows)) (set (now (start c .args .rows)) (start c .args .i) (getD (now (start c .args .exps)) (c .before .reduced2 .result) 0))
 one c =
     let s = start c in
-    let first : s .args .i ≡ 0 * length (now (s .args .nodes)) + s .args .i = omega arith in
+    let first : s .args .i ≡ 0 * length (now (s .args .points)) + s .args .i = omega arith in
     climbed-more (length (now (s .args .product))) _ _ 0 _ _ _ _ (s .pre .1 .1 .1 .0) (s .pre .1 .1 .0 .some) (s .pre .1 .1 .0 .room) first (lead-is c) (climbed-none _ _ _)
 
 slice-write-rows : tie.Need-slice-write-rows Inv-loop μ-loop
@@ -143,17 +134,17 @@ loop-again c =
     let k = c .before .before .before .before .before in
     let l = c .before .before .before .before .loop in
     let s = start k in
-    let nodes = now (s .args .nodes) in
+    let points = now (s .args .points) in
     let top : l .j ≡ suc (l .j - 1) = omega (arith, l .inv .0) in
     let next : l .j + 1 - 1 ≡ l .j = omega arith in
-    let here : c .raised2 .result ≡ basis nodes (s .args .i) (l .j) =
-    c .raised2 .ensures ∙ ap (λ (y : ℕ). mul (add (l .lead) y) (pow 2 (k .before .before .before .before .before .before .opposite .result))) (c .before .raised .ensures)
-    ∙ lead-next nodes (s .pre .1 .1 .0 .points) (s .args .i) (s .pre .1 .1 .1 .0) _ _ (inverse k) (weight k) (l .j - 1) (l .lead) _ (l .inv .2) (s .pre .1 .1 .1 .1 .1 (l .j) (search needs) ∙ ap (productAt nodes (length nodes)) top)
-    ∙ ap (basis nodes (s .args .i)) (sym top) in (
+    let here : c .raised2 .result ≡ basis points (s .args .i) (l .j) =
+    c .raised2 .ensures ∙ ap (λ (y : ℕ). mul (add (l .lead) y) (pow 2 (c .before .before .before .before .before .before .before .before .before .before .before .opposite .result))) (c .before .raised .ensures)
+    ∙ lead-next points (s .pre .1 .1 .0 .tell) (s .args .i) (s .pre .1 .1 .1 .0) _ _ (inverse k) (weight k) (l .j - 1) (l .lead) _ (l .inv .2) (s .pre .1 .1 .1 .1 .1 (l .j) (search needs) ∙ ap (productAt points (length points)) top)
+    ∙ ap (basis points (s .args .i)) (sym top) in (
       omega arith,
       search needs,
-      here ∙ ap (basis nodes (s .args .i)) (sym next),
-      climbed-more (length (now (s .args .product))) nodes (s .args .i) (l .j) _ _ (l .rows) _ (s .pre .1 .1 .1 .0) (search needs)
+      here ∙ ap (basis points (s .args .i)) (sym next),
+      climbed-more (length (now (s .args .product))) points (s .args .i) (l .j) _ _ (l .rows) _ (s .pre .1 .1 .1 .0) (search needs)
           (length-set (now (s .args .rows)) (s .args .i) (getD (now (s .args .exps)) (k .before .reduced2 .result) 0) ∙ s .pre .1 .1 .0 .room) refl here (l .inv .3),
     )
 
@@ -173,11 +164,10 @@ fill-column-spec =
     (tie.spec
     Inv-loop
     μ-loop
-    shared-slice-read-apart-exponent
-    point-requires
+    shared-slice-read-exponent
     exponent-requires
     opposite-requires
-    shared-slice-read-apart-exponent-2
+    shared-slice-read-apart-exponent
     apart-exponent-requires
     opposite-requires-2
     add-reduced

@@ -1,21 +1,20 @@
 -- After d turns the product of the first d factors is there, as far as it goes. Assumes nothing.
-use mathlib.Core.Path.{_≡_, refl, sym, _∙_, subst}
+use mathlib.Core.Path.{_≡_, refl, _∙_, subst}
 use Prim.Native.Nat.{ℕ, _-_, _≤_}
 use native.Mathlib.Omega.{arith}
 use borrow.Author.Needs.{needs}
 use denote.Ref.{now}
 use lib.ListN.{length, length-set}
 use Rattle.coefficients.specs.Working.{Lowest}
-use Rattle.coefficients.proofs.Values.{point-nonzero}
 use Rattle.coefficients.proofs.Basis.{lowest-none, lowest-more}
 use Rattle.coefficients.proofs.reading.multiply_out.Statement.{statement}
 use Rattle.coefficients.proofs.reading.multiply_out.Tie as tie
 
 abbrev Inv-loop : tie.InvT-loop
-Inv-loop logs exps nodes product₀ d₀ product d = (d ≤ length nodes) × (length product ≡ length product₀) × Lowest nodes d product
+Inv-loop logs exps points product₀ d₀ product d = (d ≤ length points) × (length product ≡ length product₀) × Lowest points d product
 
 abbrev μ-loop : tie.MeasureT-loop
-μ-loop logs exps nodes product₀ d₀ product d = length nodes - d
+μ-loop logs exps points product₀ d₀ product d = length points - d
 
 slice-write-product : tie.Need-slice-write-product Inv-loop μ-loop
 slice-write-product c = search needs
@@ -23,22 +22,18 @@ slice-write-product c = search needs
 loop-holds : tie.Need-loop-holds Inv-loop μ-loop
 loop-holds c = (omega arith, refl, lowest-none _ (now (c .before .before .before .before .args .product)) (search needs) (c .before .before .before .before .pre .1 .1 .1 .1))
 
-shared-slice-read-t12 : tie.Need-shared-slice-read-t12 Inv-loop μ-loop
-shared-slice-read-t12 c = search needs
-
-point-requires : tie.Need-point-requires Inv-loop μ-loop
-point-requires c κs = search needs
+shared-slice-read-exponent : tie.Need-shared-slice-read-exponent Inv-loop μ-loop
+shared-slice-read-exponent c = search needs
 
 exponent-requires : tie.Need-exponent-requires Inv-loop μ-loop
 exponent-requires c κs =
-    let s = c .before .before .before .before .before .before .before .before in
-    (s .pre .0, λ e. point-nonzero (now (s .args .nodes)) (s .pre .1 .1 .0) (c .before .before .before .loop .d) (omega arith) (sym (c .point .ensures) ∙ e))
+    let s = c .before .before .before .before .before .before .before in
+    (s .pre .0, s .pre .1 .1 .0 .nonzero (c .before .before .loop .d) (omega arith))
 
 widen-requires : tie.Need-widen-requires Inv-loop μ-loop
 widen-requires c κs =
-    let s = c .before .before .before .before .before .before .before .before .before .before in
-    let l = c .before .before .before .before .before .loop in
-    (s .pre .0, (s .pre .1 .0, (c .before .exponent .ensures .0, omega (arith, s .pre .1 .1 .1 .0, l .inv .1, length-set (now (s .args .product)) 0 1))))
+    let s = c .before .before .before .before .before .before .before .before .before in
+    (s .pre .0, (s .pre .1 .0, (c .before .exponent .ensures .0, omega (arith, s .pre .1 .1 .1 .0, c .before .before .before .before .loop .inv .1, length-set (now (s .args .product)) 0 1))))
 
 add-d : tie.Need-add-d Inv-loop μ-loop
 add-d c = search needs
@@ -48,12 +43,12 @@ loop-less c = search needs
 
 loop-again : tie.Need-loop-again Inv-loop μ-loop
 loop-again c =
-    let s = c .before .before .before .before .before .before .before .before .before .before .before .before .before in
-    let l = c .before .before .before .before .before .before .before .before .loop in
+    let s = c .before .before .before .before .before .before .before .before .before .before .before .before in
+    let l = c .before .before .before .before .before .before .before .loop in
     let w = c .before .before .widen in (
       omega arith,
       w .kept .1 .1 .1 .0 ∙ l .inv .1,
-      lowest-more (now (s .args .nodes)) (s .pre .1 .1 .0) (l .d) (omega arith) _ (l .product) _ (c .before .before .before .before .exponent .ensures .1 ∙ c .before .before .before .before .before .point .ensures) (w .kept .1 .1 .1 .0) (w .ensures) (l .inv .2),
+      lowest-more (now (s .args .points)) (s .pre .1 .1 .0) (l .d) (omega arith) _ (l .product) _ (c .before .before .before .before .exponent .ensures .1) (w .kept .1 .1 .1 .0) (w .ensures) (l .inv .2),
     )
 
 same-length : tie.Need-same-length Inv-loop μ-loop
@@ -61,9 +56,9 @@ same-length c = c .before .loop .inv .1 ∙ length-set (now (c .before .before .
 
 returns : tie.Need-returns Inv-loop μ-loop
 returns c =
-    let nodes = now (c .before .before .before .before .before .before .args .nodes) in
-    let e : c .before .loop .d ≡ length nodes = omega arith in
-    subst (λ (k : ℕ). Lowest nodes k (c .before .loop .product)) e (c .before .loop .inv .2)
+    let points = now (c .before .before .before .before .before .before .args .points) in
+    let e : c .before .loop .d ≡ length points = omega arith in
+    subst (λ (k : ℕ). Lowest points k (c .before .loop .product)) e (c .before .loop .inv .2)
 
 pub multiply-out-spec : {M : Type 1} → statement M
 multiply-out-spec =
@@ -73,8 +68,7 @@ multiply-out-spec =
     μ-loop
     slice-write-product
     loop-holds
-    shared-slice-read-t12
-    point-requires
+    shared-slice-read-exponent
     exponent-requires
     widen-requires
     add-d

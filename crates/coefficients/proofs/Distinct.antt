@@ -1,0 +1,77 @@
+-- Whether a list has a point, and whether its points tell a polynomial: each point is compared with those before it. Assumes nothing.
+use mathlib.Core.Path.{_≡_, sym, ap, _∙_}
+use mathlib.Core.Bool.{true, false, true≢false}
+use mathlib.Core.List.{List}
+use mathlib.Core.Logic.{⊎-elim}
+use Prim.Native.Nat.{ℕ, _+_, _≤_, _<_}
+use native.Mathlib.Omega.{arith}
+use lib.ListN.{length, getD, take}
+use lib.Seq.{getD-take, length-take-le}
+use Rattle.base.proofs.Cases.{lt-or, eq-or}
+use Rattle.field.specs.Field.{Bytes}
+use Rattle.interpolation.specs.Polynomial.{Points}
+use Rattle.kernels.specs.Blocks.{Decided}
+use Rattle.coefficients.specs.Working.{Missing, Listed}
+
+-- ---- whether x is one of the points
+
+pub missing-more : (points : List ℕ) (x n : ℕ) → (getD points n 0 ≡ x → ⊥) → Missing n points x → Missing (n + 1) points x
+missing-more points x n ne before i hi q =
+    ⊎-elim (λ (e : i ≡ n). ne (ap (λ (k : ℕ). getD points k 0) (sym e) ∙ q)) (λ other. before i (omega (arith, other)) q) (eq-or i n)
+
+pub is-listed : (points : List ℕ) (x n : ℕ) → n < length points → getD points n 0 ≡ x → Listed points x true
+is-listed points x n h e = record { found = λ t. (n, h, e); missing = λ f. absurd (true≢false f) }
+
+pub not-listed : (points : List ℕ) (x n : ℕ) → length points ≤ n → Missing n points x → Listed points x false
+not-listed points x n h none = record { found = λ t. absurd (true≢false (sym t)); missing = λ f i hi. none i (omega arith) }
+
+-- ---- whether the points tell a polynomial
+
+-- none of the first n points is 00, and none of them is listed before
+pub record Apart (n : ℕ) (points : List ℕ) : Type 0 where
+  pub nonzero : Missing n points 0
+  pub before : (i j : ℕ) → i < j → j < n → getD points i 0 ≡ getD points j 0 → ⊥
+
+pub apart-start : (points : List ℕ) → Apart 0 points
+apart-start points = record { nonzero = λ i h. absurd (omega arith); before = λ i j h k. absurd (omega arith) }
+
+module _ (points : List ℕ) (n : ℕ) (h : n < length points) where
+  shorter : length (take n points) ≡ n
+  shorter = length-take-le n points (omega arith)
+
+  pub apart-next : (getD points n 0 ≡ 0 → ⊥) → Missing (length (take n points)) (take n points) (getD points n 0) → Apart n points → Apart (n + 1) points
+  apart-next some new a =
+      record {
+        nonzero = missing-more points 0 n some (a .nonzero);
+        before = λ i j hi hj e.
+            ⊎-elim (λ (q : j ≡ n). new i (omega (arith, shorter)) (getD-take n points i 0 (omega arith) ∙ e ∙ ap (λ (k : ℕ). getD points k 0) q))
+            (λ ne. a .before i j hi (omega (arith, ne)) e) (eq-or j n);
+      }
+
+  -- a point that is 00, or one that is listed before
+  pub zero-found : getD points n 0 ≡ 0 → Decided (Points points) false
+  zero-found z = record { holds = λ t. absurd (true≢false (sym t)); fails = λ f p. p .nonzero n h z }
+
+  pub twice-found : (i : ℕ) → i < length (take n points) → getD (take n points) i 0 ≡ getD points n 0 → Decided (Points points) false
+  twice-found i hi e =
+      let lt : i < n = omega (arith, shorter) in
+      record {
+        holds = λ t. absurd (true≢false (sym t));
+        fails = λ f p. let q = p .distinct i n (omega arith) h (sym (getD-take n points i 0 lt) ∙ e) in omega arith;
+      }
+
+pub apart-told : (points : List ℕ) (n : ℕ) → length points ≤ n → Bytes points → Apart n points → Decided (Points points) true
+apart-told points n all bytes a =
+    record {
+      holds = λ t.
+          record {
+            bytes = bytes;
+            nonzero = λ i hi. a .nonzero i (omega arith);
+            distinct = λ i j hi hj e.
+                ⊎-elim (λ same. same)
+                (λ ne.
+                ⊎-elim (λ l. absurd (a .before i j l (omega arith) e)) (λ l. absurd (a .before j i (omega (arith, ne)) (omega arith) (sym e))) (lt-or i j))
+                (eq-or i j);
+          };
+      fails = λ f. absurd (true≢false f);
+    }
