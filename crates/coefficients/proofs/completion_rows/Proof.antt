@@ -20,13 +20,17 @@ returns-3 : tie.Need-returns-3
 returns-3 c = extends-kept _ _ _ _ _ (λ r. omega (arith, r .few))
 
 mul-if4 : tie.Need-mul-if4
-mul-if4 c = omega (arith, areas-fit (length (now (c .before .before .before .before .before .before .before .args .targets))) (c .before .before .before .before .before .before .before .args .e) (omega arith) (omega arith))
+mul-if4 c =
+    let s = c .before .before .before .before .before .before .before .args in
+    omega (arith, areas-fit (length (now (s .targets))) (s .e) (omega arith) (omega arith))
 
 returns-4 : tie.Need-returns-4
 returns-4 c = extends-kept _ _ _ _ _ (λ r. c .if4 .taken (r .leading-room))
 
 mul-if5 : tie.Need-mul-if5
-mul-if5 c = omega (arith, areas-fit (length (now (c .before .before .before .before .before .before .before .before .args .targets))) (length (now (c .before .before .before .before .before .before .before .before .args .at))) (omega arith) (omega arith))
+mul-if5 c =
+    let s = c .before .before .before .before .before .before .before .before .args in
+    omega (arith, areas-fit (length (now (s .targets))) (length (now (s .at))) (omega arith) (omega arith))
 
 returns-5 : tie.Need-returns-5
 returns-5 c = extends-kept _ _ _ _ _ (λ r. c .if5 .taken (r .gains-room))
@@ -43,8 +47,12 @@ lists-requires c κs = search needs
 returns-7 : tie.Need-returns-7
 returns-7 c = extends-kept _ _ _ _ _ (λ r. let f = c .before .lists .ensures .found (c .if7 .taken) in r .nonzero (f .0) (f .1) (f .2))
 
+-- where the call began
+abbrev start : tie.Else7 → tie.Start
+start c = c .before .before .before .before .before .before .before .before .before .before .before .before .before
+
 -- all that is asked
-roomy : (c : tie.Else7) → Roomy (c .before .before .before .before .before .before .before .before .before .before .before .before .before .args .e) (now (c .before .before .before .before .before .before .before .before .before .before .before .before .before .args .at)) (now (c .before .before .before .before .before .before .before .before .before .before .before .before .before .args .targets)) (length (now (c .before .before .before .before .before .before .before .before .before .before .before .before .before .args .leading))) (length (now (c .before .before .before .before .before .before .before .before .before .before .before .before .before .args .gains)))
+roomy : (c : tie.Else7) → Roomy (start c .args .e) (now (start c .args .at)) (now (start c .args .targets)) (length (now (start c .args .leading))) (length (now (start c .args .gains)))
 roomy c =
     record {
       e-most = omega (arith, c .before .before .before .before .before .before .before .before .if1 .left);
@@ -80,7 +88,8 @@ same-length-2 c = search needs
 returns-8 : tie.Need-returns-8
 returns-8 c =
     let r = c .before .before .before .before .complete in
-    extends-made _ _ _ _ _ _ _ (roomy (c .before .before .before .before .before .before .before .before .before .before .before)) (r .kept .1 .1 .1 .1 .1 .0) (r .kept .1 .1 .1 .1 .1 .1 .0) (r .ensures)
+    let all = roomy (c .before .before .before .before .before .before .before .before .before .before .before) in
+    extends-made _ _ _ _ _ _ _ all (r .kept .1 .1 .1 .1 .1 .0) (r .kept .1 .1 .1 .1 .1 .1 .0) (r .ensures)
 
 pub completion-rows-spec : {M : Type 1} → statement M
 completion-rows-spec =

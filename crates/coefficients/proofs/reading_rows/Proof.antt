@@ -20,7 +20,9 @@ returns-3 : tie.Need-returns-3
 returns-3 c = reads-kept _ _ _ (λ r. omega (arith, r .few))
 
 mul-if4 : tie.Need-mul-if4
-mul-if4 c = omega (arith, areas-fit (c .before .before .before .before .before .args .k) (length (now (c .before .before .before .before .before .args .points))) (omega arith) (omega arith))
+mul-if4 c =
+    let s = c .before .before .before .before .before .args in
+    omega (arith, areas-fit (s .k) (length (now (s .points))) (omega arith) (omega arith))
 
 returns-4 : tie.Need-returns-4
 returns-4 c = reads-kept _ _ _ (λ r. c .if4 .taken (r .room))
@@ -31,8 +33,12 @@ different-requires c κs = search needs
 returns-5 : tie.Need-returns-5
 returns-5 c = reads-kept _ _ _ (λ r. c .before .different .ensures .fails (not-true (c .before .different .result) (c .if5 .taken)) (r .tell))
 
+-- where the call began
+abbrev start : tie.Else5 → tie.Start
+start c = c .before .before .before .before .before .before .before .before
+
 -- all that is asked
-readable : (c : tie.Else5) → Readable (c .before .before .before .before .before .before .before .before .args .k) (now (c .before .before .before .before .before .before .before .before .args .points)) (length (now (c .before .before .before .before .before .before .before .before .args .rows)))
+readable : (c : tie.Else5) → Readable (start c .args .k) (now (start c .args .points)) (length (now (start c .args .rows)))
 readable c =
     record {
       few = omega (arith, c .before .before .before .if3 .left);
@@ -63,7 +69,9 @@ same-length : tie.Need-same-length
 same-length c = search needs
 
 returns-6 : tie.Need-returns-6
-returns-6 c = reads-made _ _ _ _ (readable (c .before .before .before .before .before .before .before .before)) (c .before .before .basis-rows .kept .1 .1 .1 .1 .0) (c .before .before .basis-rows .ensures)
+returns-6 c =
+    let r = c .before .before .basis-rows in
+    reads-made _ _ _ _ (readable (c .before .before .before .before .before .before .before .before)) (r .kept .1 .1 .1 .1 .0) (r .ensures)
 
 pub reading-rows-spec : {M : Type 1} → statement M
 reading-rows-spec =

@@ -18,7 +18,8 @@ use Rattle.coefficients.proofs.completing.add_powers.Statement.{stateme
 use Rattle.coefficients.proofs.completing.add_powers.Tie as tie
 
 abbrev Inv-loop : tie.InvT-loop
-Inv-loop logs exps g x leading₀ l sum₀ count j₀ leading sum j = (j ≤ length leading₀) × (sum < 255) × (pow 2 sum ≡ mul g (pow x j)) × Filled (λ i. add (getD leading₀ i 0) (mul g (pow x (suc i)))) j leading₀ leading
+Inv-loop logs exps g x leading₀ l sum₀ count j₀ leading sum j =
+    (j ≤ length leading₀) × (sum < 255) × (pow 2 sum ≡ mul g (pow x j)) × Filled (λ i. add (getD leading₀ i 0) (mul g (pow x (suc i)))) j leading₀ leading
 
 abbrev μ-loop : tie.MeasureT-loop
 μ-loop logs exps g x leading₀ l sum₀ count j₀ leading sum j = length leading₀ - j
@@ -70,11 +71,13 @@ loop-again c =
     let r = c .before .before .reduced in
     let g = s .args .g in
     let x = s .args .x in
-    let next : pow 2 (r .result) ≡ mul g (pow x (suc (l .j))) = r .ensures .1 ∙ power-on g x _ (l .sum) (l .j) (c .before .before .before .before .before .before .exponent .ensures .1) (l .inv .2) in (
+    let step = c .before .before .before .before .before .before .exponent in
+    let next : pow 2 (r .result) ≡ mul g (pow x (suc (l .j))) = r .ensures .1 ∙ power-on g x _ (l .sum) (l .j) (step .ensures .1) (l .inv .2) in
+    let entry = power-at (now (s .args .exps)) (s .pre .1 .0) (r .result) (r .ensures .0) ∙ next in (
       omega arith,
       r .ensures .0,
       next ∙ ap (λ (k : ℕ). mul g (pow x k)) (sym (add-one (l .j))),
-      filled-more _ (l .j) _ (l .leading) _ (omega (arith, l .inv .3 .same)) (ap₂ add (l .inv .3 .rest (l .j) (le-refl (l .j))) (power-at (now (s .args .exps)) (s .pre .1 .0) (r .result) (r .ensures .0) ∙ next)) (l .inv .3),
+      filled-more _ (l .j) _ (l .leading) _ (omega (arith, l .inv .3 .same)) (ap₂ add (l .inv .3 .rest (l .j) (le-refl (l .j))) entry) (l .inv .3),
     )
 
 same-length : tie.Need-same-length Inv-loop μ-loop

@@ -19,15 +19,19 @@ abbrev μ-loop : tie.MeasureT-loop
 loop-holds : tie.Need-loop-holds Inv-loop μ-loop
 loop-holds c = (omega arith, blocked-none _ _ _ _)
 
+-- where the call began
+abbrev start : tie.In-loop Inv-loop μ-loop → tie.Start Inv-loop μ-loop
+start c = c .before .before .before .before .before .before .before
+
 -- a row ends within leading, and its gains within the gains
-row-end : (c : tie.In-loop Inv-loop μ-loop) → c .before .loop .t * c .before .before .before .before .before .before .before .args .e + c .before .before .before .before .before .before .before .args .e ≤ length (now (c .before .before .before .before .before .before .before .args .leading))
+row-end : (c : tie.In-loop Inv-loop μ-loop) → c .before .loop .t * start c .args .e + start c .args .e ≤ length (now (start c .args .leading))
 row-end c =
-    let s = c .before .before .before .before .before .before .before in
+    let s = start c in
     row-ends (s .args .rows) (c .before .loop .t) (s .args .e) _ (omega arith) (omega (arith, s .pre .1 .1 .room))
 
-gains-end : (c : tie.In-loop Inv-loop μ-loop) → c .before .loop .t * length (now (c .before .before .before .before .before .before .before .args .at)) + length (now (c .before .before .before .before .before .before .before .args .at)) ≤ length (now (c .before .before .before .before .before .before .before .args .gains))
+gains-end : (c : tie.In-loop Inv-loop μ-loop) → c .before .loop .t * length (now (start c .args .at)) + length (now (start c .args .at)) ≤ length (now (start c .args .gains))
 gains-end c =
-    let s = c .before .before .before .before .before .before .before in
+    let s = start c in
     row-ends (s .args .rows) (c .before .loop .t) (length (now (s .args .at))) _ (omega arith) (omega (arith, s .pre .1 .1 .gains-room))
 
 mul-first : tie.Need-mul-first Inv-loop μ-loop

@@ -13,8 +13,14 @@ gain-rows-requires c κs = search needs
 
 add-share-requires : tie.Need-add-share-requires
 add-share-requires c κs =
-    let can = c .before .before .before .before .before .before .before .before .before .before .before .before .before .before .before .before .pre .1 .1 in
-    (c .before .before .before .before .before .before .before .before .before .before .before .before .before .before .before .before .pre .0, (c .before .before .before .before .before .before .before .before .before .before .before .before .before .before .before .before .pre .1 .0, record { few = can .few; most = can .most; e-most = can .e-most; tell = can .tell; gains-room = search needs; room = search needs }))
+    let s = c .before .before .before .before .before .before .before .before .before .before .before .before .before .before .before .before in
+    let can = s .pre .1 .1 in (
+      s .pre .0,
+      (
+        s .pre .1 .0,
+        record { few = can .few; most = can .most; e-most = can .e-most; tell = can .tell; gains-room = search needs; room = search needs },
+      ),
+    )
 
 same-length : tie.Need-same-length
 same-length c = search needs
@@ -25,7 +31,9 @@ same-length-2 c = search needs
 returns : tie.Need-returns
 returns c =
     let s = c .before .before .before .before .before .before .before .before .before .before .before .before .before .before .before .before .before .before .before .args in
-    completed (s .e) (now (s .at)) (now (s .targets)) _ _ _ (c .before .before .before .before .before .before .before .before .before .before .before .fill-rows .ensures) (c .before .before .before .before .before .before .before .gain-rows .ensures) (c .before .before .add-share .ensures)
+    let rows = c .before .before .before .before .before .before .before .before .before .before .before .fill-rows in
+    let gains = c .before .before .before .before .before .before .before .gain-rows in
+    completed (s .e) (now (s .at)) (now (s .targets)) _ _ _ (rows .ensures) (gains .ensures) (c .before .before .add-share .ensures)
 
 pub complete-spec : {M : Type 1} → statement M
 complete-spec =

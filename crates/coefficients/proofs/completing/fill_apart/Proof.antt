@@ -51,7 +51,9 @@ exponent-requires c κs =
 
 -- the weight is an exponent
 weight-small : (c : tie.After-wide Inv-loop μ-loop) → c .wide .result < 255
-weight-small c = subst⁻¹ (λ (k : ℕ). k < 255) (c .wide .ensures) (c .before .before .before .before .before .before .before .before .before .before .pre .1 .1 .0 .weighed .small (c .before .before .before .loop .j) (omega arith))
+weight-small c =
+    let s = c .before .before .before .before .before .before .before .before .before .before in
+    subst⁻¹ (λ (k : ℕ). k < 255) (c .wide .ensures) (s .pre .1 .1 .0 .weighed .small (c .before .before .before .loop .j) (omega arith))
 
 add-reduced : tie.Need-add-reduced Inv-loop μ-loop
 add-reduced c = omega (arith, weight-small (c .before .before))
@@ -72,7 +74,9 @@ shared-slice-read-gains : tie.Need-shared-slice-read-gains Inv-loop μ-loop
 shared-slice-read-gains c = search needs
 
 slice-write-gains : tie.Need-slice-write-gains Inv-loop μ-loop
-slice-write-gains c = omega (arith, c .before .before .before .before .before .before .before .before .before .loop .inv .1 .same, c .before .before .before .before .before .before .before .before .before .before .before .before .before .before .before .before .pre .1 .1 .0 .room)
+slice-write-gains c =
+    let s = c .before .before .before .before .before .before .before .before .before .before .before .before .before .before .before .before in
+    omega (arith, c .before .before .before .before .before .before .before .before .before .loop .inv .1 .same, s .pre .1 .1 .0 .room)
 
 add-j : tie.Need-add-j Inv-loop μ-loop
 add-j c = search needs

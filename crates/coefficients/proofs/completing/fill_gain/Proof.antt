@@ -22,7 +22,10 @@ returns c =
     c .before .before .fill-unit .ensures ∙ unit-gains (s .args .e) (now (s .args .at)) (s .args .target) (f .0) (s .pre .1 .1 .formula) (f .1) (f .2)
 
 fill-apart-requires : tie.Need-fill-apart-requires
-fill-apart-requires c κs = (c .before .before .before .before .before .before .before .before .pre .0, (c .before .before .before .before .before .before .before .before .pre .1 .0, (c .before .before .before .before .before .before .before .before .pre .1 .1, c .before .before .lists .ensures .missing (c .before .if1 .left))))
+fill-apart-requires c κs =
+    let s = c .before .before .before .before .before .before .before .before in
+    let l = c .before .before .lists in
+    (s .pre .0, (s .pre .1 .0, (s .pre .1 .1, l .ensures .missing (c .before .if1 .left))))
 
 same-length-2 : tie.Need-same-length-2
 same-length-2 c = search needs

@@ -22,9 +22,13 @@ abbrev μ-loop : tie.MeasureT-loop
 loop-holds : tie.Need-loop-holds Inv-loop μ-loop
 loop-holds c = (omega arith, blocked-none _ _ _ _)
 
-row-end : (c : tie.In-loop Inv-loop μ-loop) → c .before .loop .t * length (now (c .before .before .before .before .before .before .before .before .args .at)) + length (now (c .before .before .before .before .before .before .before .before .args .at)) ≤ length (now (c .before .before .before .before .before .before .before .before .args .gains))
+-- where the call began
+abbrev start : tie.In-loop Inv-loop μ-loop → tie.Start Inv-loop μ-loop
+start c = c .before .before .before .before .before .before .before .before
+
+row-end : (c : tie.In-loop Inv-loop μ-loop) → c .before .loop .t * length (now (start c .args .at)) + length (now (start c .args .at)) ≤ length (now (start c .args .gains))
 row-end c =
-    let s = c .before .before .before .before .before .before .before .before in
+    let s = start c in
     row-ends (length (now (s .args .targets))) (c .before .loop .t) (length (now (s .args .at))) _ (omega arith) (omega (arith, s .pre .1 .1 .0 .room))
 
 mul-first : tie.Need-mul-first Inv-loop μ-loop

@@ -47,8 +47,9 @@ same-length c = c .before .loop .inv .1 .same
 returns : tie.Need-returns Inv-loop μ-loop
 unfolding unitRow
 returns c =
-    let at = now (c .before .before .before .before .args .at) in
-    filled-all _ (c .before .loop .j) _ _ (omega arith) (c .before .loop .inv .1) ∙ ap (λ (n : ℕ). tabulate n (λ o. same (getD at o 0) (c .before .before .before .before .args .target))) (c .before .before .before .before .pre)
+    let s = c .before .before .before .before in
+    filled-all _ (c .before .loop .j) _ _ (omega arith) (c .before .loop .inv .1)
+    ∙ ap (λ (n : ℕ). tabulate n (λ o. same (getD (now (s .args .at)) o 0) (s .args .target))) (s .pre)
 
 pub fill-unit-spec : {M : Type 1} → statement M
 fill-unit-spec =

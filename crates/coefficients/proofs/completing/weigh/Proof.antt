@@ -42,7 +42,8 @@ loop-less c = search needs
 loop-again : tie.Need-loop-again Inv-loop μ-loop
 loop-again c =
     let l = c .before .before .before .loop in
-    (omega arith, simp length-set (l .inv .1), weighed-more _ _ (l .i) (l .weights) (c .apart-exponent .result) (omega (arith, l .inv .2 .room)) (c .apart-exponent .ensures .0) (c .apart-exponent .ensures .1) (l .inv .2))
+    let w = c .apart-exponent in
+    (omega arith, simp length-set (l .inv .1), weighed-more _ _ (l .i) (l .weights) (w .result) (omega (arith, l .inv .2 .room)) (w .ensures .0) (w .ensures .1) (l .inv .2))
 
 same-length : tie.Need-same-length Inv-loop μ-loop
 same-length c = c .before .loop .inv .1

@@ -17,7 +17,9 @@ exponent-requires c κs = (c .before .before .pre, λ z. c .if1 .left (add-zero-
 
 returns-2 : tie.Need-returns-2
 unfolding add
-returns-2 c = (c .exponent .ensures .0, c .exponent .ensures .1 ∙ sym (factor-other (c .before .before .before .args .x) (c .before .before .before .args .x) (c .before .before .before .args .d) (λ q. c .before .if1 .left (sym q))))
+returns-2 c =
+    let s = c .before .before .before .args in
+    (c .exponent .ensures .0, c .exponent .ensures .1 ∙ sym (factor-other (s .x) (s .x) (s .d) (λ q. c .before .if1 .left (sym q))))
 
 pub difference-spec : {M : Type 1} → statement M
 difference-spec = tie.close (tie.spec returns exponent-requires returns-2)

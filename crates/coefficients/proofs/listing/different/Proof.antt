@@ -45,7 +45,8 @@ loop-less c = search needs
 loop-again : tie.Need-loop-again Inv-loop μ-loop
 loop-again c =
     let l = c .before .before .before .before .before .before .loop in
-    (omega arith, apart-next (now (c .before .before .before .before .before .before .before .before .args .points)) (l .i) (omega arith) (c .before .before .before .if1 .left) (c .before .lists .ensures .missing (c .if2 .left)) (l .inv .1))
+    let points = now (c .before .before .before .before .before .before .before .before .args .points) in
+    (omega arith, apart-next points (l .i) (omega arith) (c .before .before .before .if1 .left) (c .before .lists .ensures .missing (c .if2 .left)) (l .inv .1))
 
 returns-3 : tie.Need-returns-3 Inv-loop μ-loop
 returns-3 c =

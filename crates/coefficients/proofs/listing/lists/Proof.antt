@@ -31,7 +31,10 @@ loop-less : tie.Need-loop-less Inv-loop μ-loop
 loop-less c = search needs
 
 loop-again : tie.Need-loop-again Inv-loop μ-loop
-loop-again c = (omega arith, missing-more (now (c .before .before .before .before .args .points)) (c .before .before .before .before .args .x) (c .before .before .before .loop .j) (c .if1 .left) (c .before .before .before .loop .inv .1))
+loop-again c =
+    let s = c .before .before .before .before .args in
+    let l = c .before .before .before .loop in
+    (omega arith, missing-more (now (s .points)) (s .x) (l .j) (c .if1 .left) (l .inv .1))
 
 returns-2 : tie.Need-returns-2 Inv-loop μ-loop
 returns-2 c = not-listed (now (c .before .before .args .points)) (c .before .before .args .x) (c .before .loop .j) (omega arith) (c .before .loop .inv .1)

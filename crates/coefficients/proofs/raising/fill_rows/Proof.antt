@@ -21,9 +21,13 @@ abbrev μ-loop : tie.MeasureT-loop
 loop-holds : tie.Need-loop-holds Inv-loop μ-loop
 loop-holds c = (omega arith, blocked-none _ _ _ _)
 
-row-end : (c : tie.In-loop Inv-loop μ-loop) → c .before .loop .i * c .before .before .before .before .before .before .args .m + c .before .before .before .before .before .before .args .m ≤ length (now (c .before .before .before .before .before .before .args .out))
+-- where the call began
+abbrev start : tie.In-loop Inv-loop μ-loop → tie.Start Inv-loop μ-loop
+start c = c .before .before .before .before .before .before
+
+row-end : (c : tie.In-loop Inv-loop μ-loop) → c .before .loop .i * start c .args .m + start c .args .m ≤ length (now (start c .args .out))
 row-end c =
-    let s = c .before .before .before .before .before .before in
+    let s = start c in
     row-ends (length (now (s .args .points))) (c .before .loop .i) (s .args .m) _ (omega arith) (omega (arith, s .pre .1 .1))
 
 mul-at : tie.Need-mul-at Inv-loop μ-loop

@@ -55,7 +55,8 @@ returns : tie.Need-returns
 returns c =
     let s = c .before .before .before .before .before .before .before .before .before .before .before .before in
     let f = c .before .before in
-    subst⁻¹ (λ (k : ℕ). BasisRows k (now (s .args .points)) (length (now (s .args .points))) (f .fill-columns .last .1 .1 .1 .1 .0)) (slice-aggregate-fill-columns (f .before .before)) (f .fill-columns .ensures)
+    let points = now (s .args .points) in
+    subst⁻¹ (λ (k : ℕ). BasisRows k points (length points) (f .fill-columns .last .1 .1 .1 .1 .0)) (slice-aggregate-fill-columns (f .before .before)) (f .fill-columns .ensures)
 
 pub basis-rows-spec : {M : Type 1} → statement M
 basis-rows-spec =

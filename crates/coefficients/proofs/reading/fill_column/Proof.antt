@@ -1,5 +1,6 @@
 -- The first entry by exponents, and after j turns the first j entries, each from the one before. Assumes nothing.
 use mathlib.Core.Path.{_≡_, refl, sym, ap, _∙_, subst}
+use mathlib.Core.List.{List}
 use Prim.Native.Nat.{ℕ, suc, _+_, _-_, _*_, _≤_, _<_}
 use native.Mathlib.Omega.{arith}
 use borrow.Author.Needs.{needs}
@@ -27,7 +28,7 @@ shared-slice-read-exponent c = search needs
 exponent-requires : tie.Need-exponent-requires Inv-loop μ-loop
 exponent-requires c κs =
     let s = c .before .before .before .before .before .before in
-    (s .pre .0, s .pre .1 .1 .0 .tell .nonzero (s .args .i) (s .pre .1 .1 .1 .0))
+    (s .pre .0, s .pre .1 .1 .0 .tell .nonzero _ (omega (arith, s .pre .1 .1 .1 .0)))
 
 opposite-requires : tie.Need-opposite-requires Inv-loop μ-loop
 opposite-requires c κs = search needs
@@ -63,37 +64,55 @@ shared-slice-read-lead c = search needs
 abbrev start : tie.After-shared-slice-known7 Inv-loop μ-loop → tie.Start Inv-loop μ-loop
 start c = c .before .before .before .before .before .before .before .before .before .before .before .before .before .before
 
--- entry j of the column is within the rows
-place : (c : tie.After-shared-slice-known7 Inv-loop μ-loop) (j : ℕ) → j < length (now (start c .args .product)) → j * length (now (start c .args .points)) + start c .args .i < length (now (start c .args .rows))
-place c j h =
-    let s = start c in
-    subst (λ (k : ℕ). j * length (now (s .args .points)) + s .args .i < k) (sym (s .pre .1 .1 .0 .room)) (cell-lt _ _ j (s .args .i) h (s .pre .1 .1 .1 .0))
+module _ (c : tie.After-shared-slice-known7 Inv-loop μ-loop) where
+  abbrev points : List ℕ
+  points = now (start c .args .points)
 
--- .. and these have no more than 1,024 entries
-small : (c : tie.After-shared-slice-known7 Inv-loop μ-loop) → length (now (start c .args .rows)) ≤ 1024
-small c = let r = start c .pre .1 .1 .0 in subst (λ (k : ℕ). k ≤ 1024) (sym (r .room)) (areas-fit _ _ (omega (arith, r .few, r .most)) (r .most))
+  -- the point of the column
+  abbrev x : ℕ
+  x = getD points (start c .args .i) 0
 
--- the exponent that divides by the point
-inverse : (c : tie.After-shared-slice-known7 Inv-loop μ-loop) → mul (getD (now (start c .args .points)) (start c .args .i) 0) (pow 2 (c .before .before .before .before .before .before .opposite .result)) ≡ 1
-inverse c = ap (λ (k : ℕ). mul k (pow 2 (c .before .before .before .before .before .before .opposite .result))) (sym (c .before .before .before .before .before .before .before .exponent .ensures .1)) ∙ c .before .before .before .before .before .before .opposite .ensures .1
+  -- what the first entry becomes
+  abbrev lead : ℕ
+  lead = getD (now (start c .args .exps)) (c .before .reduced2 .result) 0
 
--- .. and the one that divides by what the quotient, times z, is there
-weight : (c : tie.After-shared-slice-known7 Inv-loop μ-loop) → mul (apart 0 (now (start c .args .points)) (getD (now (start c .args .points)) (start c .args .i) 0) (getD (now (start c .args .points)) (start c .args .i) 0)) (pow 2 (c .before .before .before .opposite2 .result)) ≡ 1
-weight c = ap (λ (k : ℕ). mul k (pow 2 (c .before .before .before .opposite2 .result))) (sym (c .before .before .before .before .apart-exponent .ensures .1)) ∙ c .before .before .before .opposite2 .ensures .1
+  -- entry j of the column is within the rows
+  place : (j : ℕ) → j < length (now (start c .args .product)) → j * length points + start c .args .i < length (now (start c .args .rows))
+  place j h =
+      let s = start c in
+      subst (λ (k : ℕ). j * length points + s .args .i < k) (sym (s .pre .1 .1 .0 .room)) (cell-lt _ _ j (s .args .i) h (s .pre .1 .1 .1 .0))
 
--- the first entry is written
-lead-is : (c : tie.After-shared-slice-known7 Inv-loop μ-loop) → getD (now (start c .args .exps)) (c .before .reduced2 .result) 0 ≡ basis (now (start c .args .points)) (start c .args .i) 0
-lead-is c =
-    let s = start c in
-    let r = c .before .reduced2 in
-    power-at (now (s .args .exps)) (s .pre .1 .0) (r .result) (r .ensures .0)
-    ∙ lead-first (now (s .args .points)) (s .pre .1 .1 .0 .tell) (s .args .i) (s .pre .1 .1 .1 .0) _ _ (inverse c) (weight c) (s .args .first) (c .before .before .reduced .result) _ (s .pre .1 .1 .1 .1 .0 .1) (c .before .before .reduced .ensures .1) (r .ensures .1)
+  -- .. and these have no more than 1,024 entries
+  small : length (now (start c .args .rows)) ≤ 1024
+  small = let r = start c .pre .1 .1 .0 in subst (λ (k : ℕ). k ≤ 1024) (sym (r .room)) (areas-fit _ _ (omega (arith, r .few, r .most)) (r .most))
 
-one : (c : tie.After-shared-slice-known7 Inv-loop μ-loop) → Climbed (now (start c .args .points)) (start c .args .i) 1 (now (start c .args .rows)) (set (now (start c .args .rows)) (start c .args .i) (getD (now (start c .args .exps)) (c .before .reduced2 .result) 0))
-one c =
-    let s = start c in
-    let first : s .args .i ≡ 0 * length (now (s .args .points)) + s .args .i = omega arith in
-    climbed-more (length (now (s .args .product))) _ _ 0 _ _ _ _ (s .pre .1 .1 .1 .0) (s .pre .1 .1 .0 .some) (s .pre .1 .1 .0 .room) first (lead-is c) (climbed-none _ _ _)
+  -- the exponent that divides by the point
+  inverse : mul x (pow 2 (c .before .before .before .before .before .before .opposite .result)) ≡ 1
+  inverse =
+      let o = c .before .before .before .before .before .before .opposite in
+      ap (λ (k : ℕ). mul k (pow 2 (o .result))) (sym (c .before .before .before .before .before .before .before .exponent .ensures .1)) ∙ o .ensures .1
+
+  -- .. and the one that divides by what the quotient, times z, is there
+  weight : mul (apart 0 points x x) (pow 2 (c .before .before .before .opposite2 .result)) ≡ 1
+  weight =
+      let o = c .before .before .before .opposite2 in
+      ap (λ (k : ℕ). mul k (pow 2 (o .result))) (sym (c .before .before .before .before .apart-exponent .ensures .1)) ∙ o .ensures .1
+
+  -- the first entry is written
+  lead-is : lead ≡ basis points (start c .args .i) 0
+  lead-is =
+      let s = start c in
+      let r = c .before .reduced2 in
+      let q = c .before .before .reduced in
+      power-at (now (s .args .exps)) (s .pre .1 .0) (r .result) (r .ensures .0)
+      ∙ lead-first points (s .pre .1 .1 .0 .tell) (s .args .i) (s .pre .1 .1 .1 .0) _ _ inverse weight (s .args .first) (q .result) _
+      (s .pre .1 .1 .1 .1 .0 .1) (q .ensures .1) (r .ensures .1)
+
+  one : Climbed points (start c .args .i) 1 (now (start c .args .rows)) (set (now (start c .args .rows)) (start c .args .i) lead)
+  one =
+      let s = start c in
+      let first : s .args .i ≡ 0 * length points + s .args .i = omega arith in
+      climbed-more (length (now (s .args .product))) _ _ 0 _ _ _ _ (s .pre .1 .1 .1 .0) (s .pre .1 .1 .0 .some) (s .pre .1 .1 .0 .room) first lead-is (climbed-none _ _ _)
 
 slice-write-rows : tie.Need-slice-write-rows Inv-loop μ-loop
 slice-write-rows c = omega (arith, place c 0 (start c .pre .1 .1 .0 .some))
@@ -120,7 +139,7 @@ slice-write-rows-2 : tie.Need-slice-write-rows-2 Inv-loop μ-loop
 slice-write-rows-2 c =
     let k = c .before .before .before .before .before in
     let l = c .before .before .before .before .loop in
-    omega (arith, place k (l .j) (search needs), l .inv .3 .same, length-set (now (start k .args .rows)) (start k .args .i) (getD (now (start k .args .exps)) (k .before .reduced2 .result) 0))
+    omega (arith, place k (l .j) (search needs), l .inv .3 .same, length-set (now (start k .args .rows)) (start k .args .i) (lead k))
 
 add-j : tie.Need-add-j Inv-loop μ-loop
 add-j c = let r = start (c .before .before .before .before .before) .pre .1 .1 .0 in omega (arith, r .few, r .most)
@@ -134,24 +153,26 @@ loop-again c =
     let k = c .before .before .before .before .before in
     let l = c .before .before .before .before .loop in
     let s = start k in
-    let points = now (s .args .points) in
+    let ps = points k in
+    let back = c .before .before .before .before .before .before .before .before .before .before .before .opposite in
     let top : l .j ≡ suc (l .j - 1) = omega (arith, l .inv .0) in
     let next : l .j + 1 - 1 ≡ l .j = omega arith in
-    let here : c .raised2 .result ≡ basis points (s .args .i) (l .j) =
-    c .raised2 .ensures ∙ ap (λ (y : ℕ). mul (add (l .lead) y) (pow 2 (c .before .before .before .before .before .before .before .before .before .before .before .opposite .result))) (c .before .raised .ensures)
-    ∙ lead-next points (s .pre .1 .1 .0 .tell) (s .args .i) (s .pre .1 .1 .1 .0) _ _ (inverse k) (weight k) (l .j - 1) (l .lead) _ (l .inv .2) (s .pre .1 .1 .1 .1 .1 (l .j) (search needs) ∙ ap (productAt points (length points)) top)
-    ∙ ap (basis points (s .args .i)) (sym top) in (
+    let above = s .pre .1 .1 .1 .1 .1 (l .j) (search needs) ∙ ap (productAt ps (length ps)) top in
+    let here : c .raised2 .result ≡ basis ps (s .args .i) (l .j) =
+    c .raised2 .ensures ∙ ap (λ (y : ℕ). mul (add (l .lead) y) (pow 2 (back .result))) (c .before .raised .ensures)
+    ∙ lead-next ps (s .pre .1 .1 .0 .tell) (s .args .i) (s .pre .1 .1 .1 .0) _ _ (inverse k) (weight k) (l .j - 1) (l .lead) _ (l .inv .2) above
+    ∙ ap (basis ps (s .args .i)) (sym top) in (
       omega arith,
       search needs,
-      here ∙ ap (basis points (s .args .i)) (sym next),
-      climbed-more (length (now (s .args .product))) points (s .args .i) (l .j) _ _ (l .rows) _ (s .pre .1 .1 .1 .0) (search needs)
-          (length-set (now (s .args .rows)) (s .args .i) (getD (now (s .args .exps)) (k .before .reduced2 .result) 0) ∙ s .pre .1 .1 .0 .room) refl here (l .inv .3),
+      here ∙ ap (basis ps (s .args .i)) (sym next),
+      climbed-more (length (now (s .args .product))) ps (s .args .i) (l .j) _ _ (l .rows) _ (s .pre .1 .1 .1 .0) (search needs)
+          (length-set (now (s .args .rows)) (s .args .i) (lead k) ∙ s .pre .1 .1 .0 .room) refl here (l .inv .3),
     )
 
 same-length : tie.Need-same-length Inv-loop μ-loop
 same-length c =
     let k = c .before .before in
-    c .before .loop .inv .3 .same ∙ length-set (now (start k .args .rows)) (start k .args .i) (getD (now (start k .args .exps)) (k .before .reduced2 .result) 0)
+    c .before .loop .inv .3 .same ∙ length-set (now (start k .args .rows)) (start k .args .i) (lead k)
 
 returns : tie.Need-returns Inv-loop μ-loop
 returns c =

@@ -6,7 +6,7 @@ use native.Mathlib.Omega.{arith}
 use borrow.Author.Needs.{needs}
 use denote.Ref.{now}
 use lib.ListN.{length}
-use Rattle.coefficients.specs.Working.{BasisRows}
+use Rattle.coefficients.specs.Working.{BasisRows, Columned}
 use Rattle.coefficients.proofs.Basis.{first-nonzero, basis-more}
 use Rattle.coefficients.proofs.reading.fill_columns.Statement.{statement}
 use Rattle.coefficients.proofs.reading.fill_columns.Tie as tie
@@ -36,7 +36,9 @@ fill-column-requires c κs =
     let e = c .before .before .before .exponent in
     let r = s .pre .1 .1 .0 in
     let lowest = s .pre .1 .1 .1 in
-    (s .pre .0, (s .pre .1 .0, (record { some = r .some; few = r .few; most = r .most; tell = r .tell; room = l .inv .1 ∙ r .room }, (omega arith, ((e .ensures .0, e .ensures .1 ∙ lowest 0 (r .some)), lowest)))))
+    let can : Columned (length (now (s .args .product))) (now (s .args .points)) (l .rows) =
+    record { some = r .some; few = r .few; most = r .most; tell = r .tell; room = l .inv .1 ∙ r .room } in
+    (s .pre .0, (s .pre .1 .0, (can, (omega arith, ((e .ensures .0, e .ensures .1 ∙ lowest 0 (r .some)), lowest)))))
 
 add-i : tie.Need-add-i Inv-loop μ-loop
 add-i c = search needs

@@ -48,7 +48,8 @@ loop-again c =
     let w = c .before .before .widen in (
       omega arith,
       w .kept .1 .1 .1 .0 ∙ l .inv .1,
-      lowest-more (now (s .args .points)) (s .pre .1 .1 .0) (l .d) (omega arith) _ (l .product) _ (c .before .before .before .before .exponent .ensures .1) (w .kept .1 .1 .1 .0) (w .ensures) (l .inv .2),
+      lowest-more (now (s .args .points)) (s .pre .1 .1 .0) (l .d) (omega arith) _ (l .product) _
+          (c .before .before .before .before .exponent .ensures .1) (w .kept .1 .1 .1 .0) (w .ensures) (l .inv .2),
     )
 
 same-length : tie.Need-same-length Inv-loop μ-loop
