@@ -6,6 +6,7 @@ use native.Mathlib.Nat.{le-refl, min-eq-left}
 use native.Mathlib.Omega.{arith}
 use lib.ListN.{length, take, drop, replicate, length-replicate}
 use Rattle.base.specs.Seq.{cell}
+use Rattle.base.proofs.Buffers.{areas-fit}
 use Rattle.field.specs.Field.{add, mul, pow}
 use Rattle.field.specs.FiniteSum.{sum}
 use Rattle.field.proofs.Addition.{add-zero-right}
@@ -22,7 +23,7 @@ use Rattle.code.specs.Calls.{Encoded}
 use Rattle.kernels.specs.Blocks.{Fits, Added}
 use Rattle.kernels.proofs.Arriving.{ordered-product}
 use Rattle.coefficients.specs.Coefficients.{pointPowers}
-use Rattle.coefficients.proofs.Laws.{areas-fit, length-pointPowers, pointPowers-at, product-fits, first-length, first-at, first-inside, product-first}
+use Rattle.coefficients.proofs.Laws.{length-pointPowers, pointPowers-at, product-fits, first-length, first-at, first-inside, product-first}
 use Rattle.access.specs.Cores.{Raisable}
 
 -- ---- the powers

@@ -15,14 +15,14 @@ use Rattle.interpolation.specs.Polynomial.{evaluate}
 use Rattle.interpolation.proofs.Rows.{cell-byte}
 use Rattle.params.specs.Nodes.{has, size, inOrder, placesOf}
 use Rattle.params.specs.Params.{slackParts, working}
-use Rattle.params.proofs.Placing.{place-of}
+use Rattle.params.proofs.Placing.{place-of, placed-length, placed-inside}
 use Rattle.params.specs.declared.Params.{Params}
 use Rattle.params.proofs.Sets.{within-has, size-most}
 use Rattle.code.specs.Code.{point, block, Gives}
 use Rattle.kernels.specs.Blocks.{Fits, Added}
 use Rattle.kernels.proofs.Arriving.{ordered-product}
 use Rattle.coefficients.specs.Coefficients.{pointAt, Reads}
-use Rattle.coefficients.proofs.Laws.{product-fits, first-length, first-at, first-inside, placed-length, placed-inside, product-placed}
+use Rattle.coefficients.proofs.Laws.{product-fits, first-length, first-at, first-inside, product-placed}
 use Rattle.access.specs.Cores.{Decodable, Recovered}
 
 module _ (a : Params) (from out : ℕ) (word : from < 2 ^ 32) (codeword : List ℕ) (ok : Decodable a (length codeword) out from) where

@@ -24,14 +24,14 @@ pub fn encode(a: Params, message: &[u8], slack: &[u8], codeword: &mut [u8]) -> u
     0
 }
 
-// Makes room for message and slack side by side and for the powers, about as much as is wanted, since room is cleared at each call. The function for the largest
-// is called at two places: the compiler then keeps it apart, and a small call takes no stack for it.
+// Makes room for message and slack side by side, about as much as is wanted, since room is cleared at each call. The function for the larger rooms is called at two
+// places, and the first test is there for that alone: the compiler then keeps it apart, and a small call takes no stack for them.
 fn encode_blocks(a: Params, message: &[u8], slack: &[u8], codeword: &mut [u8])
     requires { ⌜ Encodable a (length (now message)) (length (now slack)) (length (now codeword)) ⌝ }
     ensures { λ _. ⌜ Encoded a (now (message .entry)) (now (slack .entry)) (now (codeword .exit)) ⌝ }
 {
-    if 128 < a.n * a.working() {
-        encode_32768(a, message, slack, codeword);
+    if 512 < a.b {
+        encode_large(a, message, slack, codeword);
         return;
     }
     let size = message.len() + slack.len();
@@ -43,27 +43,45 @@ fn encode_blocks(a: Params, message: &[u8], slack: &[u8], codeword: &mut [u8])
         encode_1024(a, message, slack, codeword);
         return;
     }
+    encode_large(a, message, slack, codeword);
+}
+
+fn encode_large(a: Params, message: &[u8], slack: &[u8], codeword: &mut [u8])
+    requires { ⌜ Encodable a (length (now message)) (length (now slack)) (length (now codeword)) ⌝ }
+    ensures { λ _. ⌜ Encoded a (now (message .entry)) (now (slack .entry)) (now (codeword .exit)) ⌝ }
+{
+    if message.len() + slack.len() <= 10240 {
+        encode_10240(a, message, slack, codeword);
+        return;
+    }
     encode_32768(a, message, slack, codeword);
 }
 
 fn encode_64(a: Params, message: &[u8], slack: &[u8], codeword: &mut [u8])
     requires { ⌜ Encodable a (length (now message)) (length (now slack)) (length (now codeword)) ⌝ }
-    requires { ⌜ (length (now message) + length (now slack) ≤ 64) × (a .n * working a ≤ 128) ⌝ }
+    requires { ⌜ length (now message) + length (now slack) ≤ 64 ⌝ }
     ensures { λ _. ⌜ Encoded a (now (message .entry)) (now (slack .entry)) (now (codeword .exit)) ⌝ }
 {
     let mut parts = [0u8; 64];
-    let mut rows = [0u8; 128];
-    encode_joined(a, message, slack, &mut parts, &mut rows, codeword);
+    encode_joined(a, message, slack, &mut parts, codeword);
 }
 
 fn encode_1024(a: Params, message: &[u8], slack: &[u8], codeword: &mut [u8])
     requires { ⌜ Encodable a (length (now message)) (length (now slack)) (length (now codeword)) ⌝ }
-    requires { ⌜ (length (now message) + length (now slack) ≤ 1024) × (a .n * working a ≤ 128) ⌝ }
+    requires { ⌜ length (now message) + length (now slack) ≤ 1024 ⌝ }
     ensures { λ _. ⌜ Encoded a (now (message .entry)) (now (slack .entry)) (now (codeword .exit)) ⌝ }
 {
     let mut parts = [0u8; 1024];
-    let mut rows = [0u8; 128];
-    encode_joined(a, message, slack, &mut parts, &mut rows, codeword);
+    encode_joined(a, message, slack, &mut parts, codeword);
+}
+
+fn encode_10240(a: Params, message: &[u8], slack: &[u8], codeword: &mut [u8])
+    requires { ⌜ Encodable a (length (now message)) (length (now slack)) (length (now codeword)) ⌝ }
+    requires { ⌜ length (now message) + length (now slack) ≤ 10240 ⌝ }
+    ensures { λ _. ⌜ Encoded a (now (message .entry)) (now (slack .entry)) (now (codeword .exit)) ⌝ }
+{
+    let mut parts = [0u8; 10240];
+    encode_joined(a, message, slack, &mut parts, codeword);
 }
 
 fn encode_32768(a: Params, message: &[u8], slack: &[u8], codeword: &mut [u8])
@@ -71,33 +89,46 @@ fn encode_32768(a: Params, message: &[u8], slack: &[u8], codeword: &mut [u8])
     ensures { λ _. ⌜ Encoded a (now (message .entry)) (now (slack .entry)) (now (codeword .exit)) ⌝ }
 {
     let mut parts = [0u8; 32768];
-    let mut rows = [0u8; 1024];
-    encode_joined(a, message, slack, &mut parts, &mut rows, codeword);
+    encode_joined(a, message, slack, &mut parts, codeword);
 }
 
-// The same, with room for message and slack, and for the powers.
-fn encode_joined(
-    a: Params,
-    message: &[u8],
-    slack: &[u8],
-    parts: &mut [u8],
-    rows: &mut [u8],
-    codeword: &mut [u8],
-)
+// The same, with room for message and slack.
+fn encode_joined(a: Params, message: &[u8], slack: &[u8], parts: &mut [u8], codeword: &mut [u8])
     requires { ⌜ Encodable a (length (now message)) (length (now slack)) (length (now codeword)) ⌝ }
-    requires { ⌜ (length (now message) + length (now slack) ≤ length (now parts)) × (a .n * working a ≤ length (now rows)) ⌝ }
+    requires { ⌜ length (now message) + length (now slack) ≤ length (now parts) ⌝ }
     ensures { λ _. ⌜ Encoded a (now (message .entry)) (now (slack .entry)) (now (codeword .exit)) ⌝ }
 {
     let first = message.len();
     let last = first + slack.len();
     copy_block(&mut parts[..first], message);
     copy_block(&mut parts[first..last], slack);
-    encode_within(a, &parts[..last], rows, codeword);
+    encode_parts(a, &parts[..last], codeword);
 }
 
-// The message is the first k parts, the slack the others. There is room for the powers: a row for each node, a column for each part. Parts and rows are lent
-// anew: a slice that is handed on as it came is copied, pointer and length at once, just after these were stored one by one, and such a copy waits for the
-// stores.
+// The message is the first k parts, the slack the others. Here room is made for the powers, again no more than is wanted.
+fn encode_parts(a: Params, parts: &[u8], codeword: &mut [u8])
+    requires { ⌜ Raisable a (length (now parts)) (length (now codeword)) ⌝ }
+    ensures { λ _. ⌜ Encoded a (take (a .k * a .b) (now (parts .entry))) (drop (a .k * a .b) (now (parts .entry))) (now (codeword .exit)) ⌝ }
+{
+    if a.n * a.working() <= 128 {
+        encode_parts_128(a, parts, codeword);
+        return;
+    }
+    let mut rows = [0u8; 1024];
+    encode_within(a, parts, &mut rows, codeword);
+}
+
+fn encode_parts_128(a: Params, parts: &[u8], codeword: &mut [u8])
+    requires { ⌜ Raisable a (length (now parts)) (length (now codeword)) ⌝ }
+    requires { ⌜ a .n * working a ≤ 128 ⌝ }
+    ensures { λ _. ⌜ Encoded a (take (a .k * a .b) (now (parts .entry))) (drop (a .k * a .b) (now (parts .entry))) (now (codeword .exit)) ⌝ }
+{
+    let mut rows = [0u8; 128];
+    encode_within(a, parts, &mut rows, codeword);
+}
+
+// The same, with room for the powers: a row for each node, a column for each part. Parts and rows are lent anew: a slice that is handed on as it came is copied,
+// pointer and length at once, just after these were stored one by one, and such a copy waits for the stores.
 fn encode_within(a: Params, parts: &[u8], rows: &mut [u8], codeword: &mut [u8])
     requires { ⌜ Raisable a (length (now parts)) (length (now codeword)) ⌝ }
     requires { ⌜ a .n * working a ≤ length (now rows) ⌝ }

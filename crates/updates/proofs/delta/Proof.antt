@@ -45,7 +45,7 @@ spread-requires c κs =
     let z = c .before .before .before .before in
     let i = z .before .before in
     let s = i .before .before .before .before .before in
-    in-a-row (s .args .a) (s .args .to .0) (word s) (now (s .args .change)) (i .in-order .result) (i .in-order .ensures) _ (accepted (i .before)) _ (z .clear .kept .0)
+    in-a-row (s .args .a) (s .args .to .0) (word s) (now (s .args .change)) (i .in-order .result) (i .in-order .ensures) _ (accepted (i .before)) _ (search needs)
 
 same-length : tie.Need-same-length
 same-length c = search needs

@@ -3,8 +3,8 @@ use Prim.Native.Nat.{_^_, _<_}
 use native.Mathlib.Omega.{arith}
 use borrow.Author.Needs.{needs}
 use denote.Ref.{now}
+use Rattle.base.proofs.Buffers.{areas-fit}
 use Rattle.params.proofs.Sets.{size-most}
-use Rattle.coefficients.proofs.Laws.{areas-fit}
 use Rattle.access.proofs.ReadBack.{parts-few}
 use Rattle.access.proofs.decoding.decode_1024.Statement.{statement}
 use Rattle.access.proofs.decoding.decode_1024.Tie as tie

@@ -4,8 +4,8 @@ use Prim.Native.Nat.{ℕ, _*_, _^_, _≤_, _<_}
 use native.Mathlib.Omega.{arith}
 use borrow.Author.Needs.{needs}
 use denote.Ref.{now}
+use Rattle.base.proofs.Buffers.{areas-fit}
 use Rattle.params.proofs.Sets.{size-most}
-use Rattle.coefficients.proofs.Laws.{areas-fit}
 use Rattle.access.proofs.ReadBack.{parts-few}
 use Rattle.access.proofs.decoding.decode_parts.Statement.{statement}
 use Rattle.access.proofs.decoding.decode_parts.Tie as tie

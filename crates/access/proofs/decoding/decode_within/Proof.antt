@@ -6,10 +6,11 @@ use borrow.Author.Needs.{needs}
 use denote.Ref.{now}
 use lib.ListN.{length, drop}
 use lib.Seq.{length-take-le, take-length}
+use Rattle.base.proofs.Buffers.{areas-fit, buffer-fits, buffer-count}
 use Rattle.params.specs.Nodes.{size, placesOf}
 use Rattle.params.proofs.Sets.{size-most}
 use Rattle.params.proofs.Placing.{placing-zeros}
-use Rattle.coefficients.proofs.Laws.{areas-fit, buffer-fits, buffer-count, lent-anew}
+use Rattle.coefficients.proofs.Laws.{lent-anew}
 use Rattle.access.proofs.ReadBack.{part-each, parts-few, recovered}
 use Rattle.access.proofs.decoding.decode_within.Statement.{statement}
 use Rattle.access.proofs.decoding.decode_within.Tie as tie

@@ -1,21 +1,17 @@
--- Message and slack have at most 32 parts of at most 1,024 bytes, and 32 nodes at most 32 powers each. Assumes nothing.
+-- Message and slack have at most 32 parts of at most 1,024 bytes. Assumes nothing.
 use borrow.Author.Needs.{needs}
 use denote.Ref.{now}
 use Rattle.access.proofs.Joined.{both-most}
-use Rattle.access.proofs.PowerBlocks.{powers-most}
 use Rattle.access.proofs.encoding.encode_32768.Statement.{statement}
 use Rattle.access.proofs.encoding.encode_32768.Tie as tie
 
 slice-aggregate-encode-joined : tie.Need-slice-aggregate-encode-joined
 slice-aggregate-encode-joined c = search needs
 
-slice-aggregate-encode-joined-2 : tie.Need-slice-aggregate-encode-joined-2
-slice-aggregate-encode-joined-2 c = search needs
-
 encode-joined-requires : tie.Need-encode-joined-requires
 encode-joined-requires c κs =
-    let s = c .before .before .before .before .before .before in
-    (s .pre, (both-most (s .args .a) (now (s .args .message)) (now (s .args .slack)) _ (s .pre), powers-most (s .args .a) _ _ (s .pre .both)))
+    let s = c .before .before .before .before .before in
+    (s .pre, both-most (s .args .a) (now (s .args .message)) (now (s .args .slack)) _ (s .pre))
 
 same-length : tie.Need-same-length
 same-length c = search needs
@@ -25,4 +21,4 @@ returns c = search needs
 
 pub encode-32768-spec : {M : Type 1} → statement M
 encode-32768-spec =
-    tie.close (tie.spec slice-aggregate-encode-joined slice-aggregate-encode-joined-2 encode-joined-requires same-length returns)
+    tie.close (tie.spec slice-aggregate-encode-joined encode-joined-requires same-length returns)

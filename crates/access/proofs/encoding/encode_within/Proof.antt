@@ -6,7 +6,8 @@ use borrow.Author.Needs.{needs}
 use denote.Ref.{now}
 use lib.ListN.{length, drop, replicate}
 use lib.Seq.{take-length, length-take-le}
-use Rattle.coefficients.proofs.Laws.{buffer-fits, buffer-count, lent-anew}
+use Rattle.base.proofs.Buffers.{buffer-fits, buffer-count}
+use Rattle.coefficients.proofs.Laws.{lent-anew}
 use Rattle.access.proofs.PowerBlocks.{powers-most, most, area-is, encoded}
 use Rattle.access.proofs.encoding.encode_within.Statement.{statement}
 use Rattle.access.proofs.encoding.encode_within.Tie as tie
