@@ -1,5 +1,5 @@
--- Decimal is right: each digit is one, read in base ten they give the number back, and only 0 begins with the digit 0. By induction on the digits that are
--- left. Assumes nothing.
+-- Decimal is right: each byte is a digit, the digits read in base ten give the number back, and only 0 begins with the digit 0. By induction on the digits
+-- that are left. Assumes nothing.
 use mathlib.Core.Path.{_≡_, refl, ap, _∙_}
 use mathlib.Core.Logic.{⊎-elim}
 use mathlib.Core.List.{List, [], _∷_}

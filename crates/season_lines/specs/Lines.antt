@@ -37,7 +37,7 @@ lineOf number kind answer message = decimal number ++ 32 ∷ decimal kind ++ 32 
 abbrev pub room : List ℕ → ℕ
 room message = 64 + 2 * length message
 
--- new begins with the text, which has as many bytes as are told to be written, and is as it was behind it
+-- `new` begins with the text, which is `written` bytes long, and is as `old` behind it
 pub record Wrote (text old : List ℕ) (written : ℕ) (new : List ℕ) : Type 0 where
   pub count : written ≡ length text
   pub bytes : new ≡ text ++ drop (length text) old

@@ -1,4 +1,4 @@
--- Small blocks' bytes are a usize; other blocks are not promised. Assumes nothing.
+-- The bytes of small blocks are a usize; of other blocks nothing is promised. Assumes nothing.
 use mathlib.Core.Path.{refl}
 use native.Mathlib.Omega.{arith}
 use Rattle.gates.proofs.Valid.{blocks-most}
