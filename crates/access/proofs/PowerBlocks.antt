@@ -22,8 +22,9 @@ use Rattle.code.specs.Code.{point, block}
 use Rattle.code.specs.Calls.{Encoded}
 use Rattle.kernels.specs.Blocks.{Fits, Added}
 use Rattle.kernels.proofs.Arriving.{ordered-product}
-use Rattle.coefficients.specs.Coefficients.{pointPowers}
-use Rattle.coefficients.proofs.Laws.{length-pointPowers, pointPowers-at, product-fits, first-length, first-at, first-inside, product-first}
+use Rattle.coefficients.proofs.Laws.{product-fits, first-length, first-at, first-inside, product-first}
+use Rattle.node_rows.specs.Rows.{pointPowers}
+use Rattle.node_rows.proofs.Laws.{length-pointPowers, pointPowers-at}
 use Rattle.access.specs.Cores.{Raisable}
 
 -- ---- the powers

@@ -19,10 +19,12 @@ use Rattle.params.proofs.Placing.{place-of, placed-length, placed-inside}
 use Rattle.params.specs.declared.Params.{Params}
 use Rattle.params.proofs.Sets.{within-has, size-most}
 use Rattle.code.specs.Code.{point, block, Gives}
+use Rattle.code.specs.Points.{pointAt, pointsOf}
 use Rattle.kernels.specs.Blocks.{Fits, Added}
 use Rattle.kernels.proofs.Arriving.{ordered-product}
-use Rattle.coefficients.specs.Coefficients.{pointAt, Reads}
-use Rattle.coefficients.proofs.Laws.{product-fits, first-length, first-at, first-inside, product-placed}
+use Rattle.coefficients.specs.Coefficients.{Reads}
+use Rattle.coefficients.proofs.Laws.{product-fits, product-places, first-length, first-at, first-inside}
+use Rattle.node_rows.proofs.Laws.{reads-nodes}
 use Rattle.access.specs.Cores.{Decodable, Recovered}
 
 module _ (a : Params) (from out : ℕ) (word : from < 2 ^ 32) (codeword : List ℕ) (ok : Decodable a (length codeword) out from) where
@@ -39,12 +41,12 @@ module _ (a : Params) (from out : ℕ) (word : from < 2 ^ 32) (codeword : List �
         ∙ ap (λ (c : ℕ). evaluate (a .k) (slackParts a) (λ j. cell (a .b) x j p) (λ j. cell (a .b) v j p) (point c)) (sym (g .2))
 
     -- so a row takes the blocks read to a part of the message
-    part-read : (rows : List ℕ) → Reads (a .k) from rows → (j p : ℕ) → j < a .k → p < a .b
+    part-read : (rows : List ℕ) → Reads (a .k) (pointsOf from) rows → (j p : ℕ) → j < a .k → p < a .b
         → sum (size from) (λ o. mul (cell (size from) rows j o) (cell (a .b) codeword (getD (placesOf from) o 0) p)) ≡ cell (a .b) x j p
     unfolding working
     part-read rows reads j p hj hp =
         sum-ext (size from) _ _ (λ o ho. ap (mul (cell (size from) rows j o)) (value p o hp ho))
-        ∙ reads .takes (slackParts a) (λ j. cell (a .b) x j p) (λ j. cell (a .b) v j p) (sym (ok .from-size))
+        ∙ reads-nodes (a .k) from rows reads (slackParts a) (λ j. cell (a .b) x j p) (λ j. cell (a .b) v j p) (sym (ok .from-size))
         (λ j. cell-byte (a .b) x j p (gives .pair .message .bytes)) (λ j. cell-byte (a .b) v j p (gives .pair .slack .bytes)) j hj
 
   -- no more parts than nodes
@@ -57,7 +59,7 @@ module _ (a : Params) (from out : ℕ) (word : from < 2 ^ 32) (codeword : List �
 
   -- q is the set's size as the code counts it
   pub recovered : (q : ℕ) (places order rows old new : List ℕ) → old ≡ replicate out 0 → q ≡ size from → places ≡ placesOf from → order ≡ inOrder
-      → length rows ≡ a .k * q → Reads (a .k) from rows → Added (a .b) q codeword (take (a .k) order) (take q places) rows old new → Recovered a codeword from new
+      → length rows ≡ a .k * q → Reads (a .k) (pointsOf from) rows → Added (a .b) q codeword (take (a .k) order) (take q places) rows old new → Recovered a codeword from new
   recovered q places order rows old new cleared hq hp ordered full reads made =
       let few : a .k ≤ 32 = parts-few in
       let targets : length (take (a .k) order) ≡ a .k = first-length order ordered (a .k) few in
@@ -74,7 +76,7 @@ module _ (a : Params) (from out : ℕ) (word : from < 2 ^ 32) (codeword : List �
             (λ j p hj hb.
             ordered-product (take (a .k) order) (λ i hi. first-at order ordered (a .k) few i (omega (arith, targets))) (a .b) q codeword (take q places) rows old new
             fits made out cleared j p (omega (arith, targets)) hb
-            ∙ product-placed from word places hp q hq (a .b) q codeword rows j p
+            ∙ product-places places (placesOf from) hp q (placed-length from word places hp q hq) (a .b) q codeword rows j p
             ∙ ap (λ (m : ℕ). sum m (λ o. mul (cell m rows j o) (cell (a .b) codeword (getD (placesOf from) o 0) p))) hq
             ∙ part-read x v gives rows reads j p hj hb);
       }

@@ -1,8 +1,8 @@
 // Document 01's reading.
 use blocks::clear;
-use coefficients::reading_rows;
 use gates::decode_gate;
 use kernels::add_product;
+use node_rows::decoding_rows;
 use params::NodeSet;
 use params::Params;
 use params::in_order;
@@ -67,7 +67,7 @@ fn decode_within(a: Params, codeword: &[u8], from: NodeSet, rows: &mut [u8], out
     let area = k * q;
     let mut places = [0u8; 32];
     places_of(from, &mut places);
-    reading_rows(k, from, &mut rows[..area]);
+    decoding_rows(k, from, &mut rows[..area]);
     let order = in_order();
     let size = codeword.len();
     clear(out);

@@ -1,9 +1,9 @@
 // Document 01's set-up. Message and slack are laid side by side, so that one product by the powers of the nodes' points gives all blocks.
 use blocks::clear;
 use blocks::copy_block;
-use coefficients::power_rows;
 use gates::encode_gate;
 use kernels::add_product;
+use node_rows::encoding_rows;
 use params::Params;
 use params::in_order;
 ghost use Prim.Native.Nat.{_+_, _*_, _≤_};
@@ -137,7 +137,7 @@ fn encode_within(a: Params, parts: &[u8], rows: &mut [u8], codeword: &mut [u8])
     let n = a.n;
     let q = a.working();
     let area = n * q;
-    power_rows(n, q, &mut rows[..area]);
+    encoding_rows(n, q, &mut rows[..area]);
     let order = in_order();
     let columns = in_order();
     let size = parts.len();

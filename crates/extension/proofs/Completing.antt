@@ -11,8 +11,9 @@ use Rattle.field.proofs.Addition.{add-zero-left}
 use Rattle.interpolation.specs.Polynomial.{evaluate}
 use Rattle.params.specs.Nodes.{has, size, count, inOrder, placesOf}
 use Rattle.params.proofs.Sets.{has-le, node-at-rank, size-most, size-count, entry}
+use Rattle.params.proofs.Placing.{placed-length}
 use Rattle.code.specs.Code.{point}
-use Rattle.coefficients.proofs.Laws.{first-length, first-at, first-inside, placed-length}
+use Rattle.coefficients.proofs.Laws.{first-length, first-at, first-inside}
 use Rattle.placing.specs.Placed.{ClearPost}
 use Rattle.extension.specs.Blocks.{CompleteAsks, CompletePost}
 use Rattle.extension.specs.Extending.{Extendable, Extended}

@@ -18,10 +18,10 @@ use Rattle.params.specs.Nodes.{has, size, count, listed, placesOf, inOrder}
 use Rattle.params.specs.Params.{slackParts, working}
 use Rattle.params.specs.declared.Params.{Params}
 use Rattle.params.proofs.Sets.{has-le, node-at-rank, size-most}
-use Rattle.params.proofs.Placing.{place-of}
+use Rattle.params.proofs.Placing.{place-of, placed-length, placed-at}
 use Rattle.code.specs.Code.{point, block}
 use Rattle.kernels.proofs.Laws.{block-inside}
-use Rattle.coefficients.proofs.Laws.{placed-length, placed-at, first-length, first-inside}
+use Rattle.coefficients.proofs.Laws.{first-length, first-inside}
 use Rattle.placing.proofs.Ranks.{rank-inside}
 use Rattle.extension.specs.Blocks.{Recomputable, RecomputePost}
 use Rattle.extension.specs.Extending.{Extendable, Extended}

@@ -3,13 +3,14 @@
 use mathlib.Core.Path.{_≡_, refl, sym, ap, ap₂, _∙_, subst, subst₂}
 use mathlib.Core.Bool.{Bool, true, false}
 use mathlib.Core.List.{List, _++_}
-use Prim.Native.Nat.{ℕ, _*_, _≤_, _<_}
+use Prim.Native.Nat.{ℕ, _*_, _^_, _≤_, _<_}
 use native.Mathlib.Nat.{le-refl}
 use native.Mathlib.Omega.{arith}
 use lib.Dec.{eqb}
 use lib.ListN.{length, getD, take, drop}
 use lib.Seq.{length-take-le}
 use Rattle.base.specs.Seq.{cell}
+use Rattle.base.proofs.Buffers.{buffer-front}
 use Rattle.field.specs.Field.{Bytes, add, mul}
 use Rattle.field.specs.FiniteSum.{sum}
 use Rattle.field.proofs.Addition.{add-zero-left, add-zero-right, add-assoc}
@@ -17,11 +18,13 @@ use Rattle.field.proofs.FiniteSum.{sum-ext, sum-add}
 use Rattle.interpolation.specs.Polynomial.{evaluate}
 use Rattle.interpolation.proofs.Rows.{cell-byte}
 use Rattle.params.specs.Nodes.{size, inOrder}
+use Rattle.code.specs.Points.{pointAt, pointsOf}
 use Rattle.kernels.specs.Blocks.{product, when, arriving, Fits, Added}
 use Rattle.kernels.proofs.Arriving.{arriving-ext, arriving-none}
 use Rattle.coefficients.specs.Coefficients.{Extends, ExtendsPost}
-use Rattle.coefficients.proofs.Laws.{buffer-front, product-fits, first-length, first-inside, product-first}
-use Rattle.extension.specs.Extending.{nodePoint, Extendable, Extended}
+use Rattle.coefficients.proofs.Laws.{product-fits, first-length, first-inside, product-first}
+use Rattle.node_rows.proofs.Laws.{roomy, extends-nodes}
+use Rattle.extension.specs.Extending.{Extendable, Extended}
 
 -- what arrives of two terms arrives of their sum
 arriving-add : (n : ℕ) (to : List ℕ) (f g : ℕ → ℕ) (j : ℕ) → add (arriving n to f j) (arriving n to g j) ≡ arriving n to (λ t. add (f t) (g t)) j
@@ -51,19 +54,19 @@ module _ (b e at targets rows : ℕ) (message z places to columns leading gains 
       (omega (arith, ap (λ (m : ℕ). m * size at) row-count)) (λ j hj. ok .block j (omega (arith, ok .count-is)))
 
   -- the two terms of row t
-  module _ (bytes : Bytes message) (rows-take : Extends e at targets leading gains) (p : ℕ) (v : ℕ → ℕ) (hv : (j : ℕ) → v j < 256)
-      (values : (o : ℕ) → o < size at → evaluate e (size at) (λ j. cell b message j p) v (nodePoint at o) ≡ cell b z (getD places o 0) p) where
+  module _ (bytes : Bytes message) (rows-take : Extends e (pointsOf at) (pointsOf targets) leading gains) (p : ℕ) (v : ℕ → ℕ) (hv : (j : ℕ) → v j < 256)
+      (values : (o : ℕ) → o < size at → evaluate e (size at) (λ j. cell b message j p) v (pointAt at o) ≡ cell b z (getD places o 0) p) where
     row-value : (t : ℕ) → t < length to
         → add (product b message (take e columns) leading e t p) (product b z places gains (size at) t p)
-        ≡ evaluate e (size at) (λ j. cell b message j p) v (nodePoint targets t)
+        ≡ evaluate e (size at) (λ j. cell b message j p) v (pointAt targets t)
     unfolding product
     row-value t ht =
         ap₂ add (product-first columns told e (ok .most) b e message leading t p)
         (ap (λ (m : ℕ). sum m (λ o. mul (cell (size at) gains t o) (cell b z (getD places o 0) p))) (ok .count-is)
         ∙ sum-ext (size at) _ _ (λ o ho. ap (mul (cell (size at) gains t o)) (sym (values o ho))))
-        ∙ sym (rows-take .takes (λ j. cell b message j p) v (λ j. cell-byte b message j p bytes) hv t (omega (arith, ok .to-count)))
+        ∙ sym (extends-nodes e at targets leading gains rows-take (λ j. cell b message j p) v (λ j. cell-byte b message j p bytes) hv t (omega (arith, ok .to-count)))
 
-  extended : (old mid new : List ℕ) → length old ≡ out → Bytes message → Extends e at targets leading gains
+  extended : (old mid new : List ℕ) → length old ≡ out → Bytes message → Extends e (pointsOf at) (pointsOf targets) leading gains
       → Added b e message to (take e columns) leading old mid → Added b (size at) z to places gains mid new
       → Extended b e at targets message z places to old new
   extended old mid new room bytes rows-take first second =
@@ -85,10 +88,10 @@ module _ (b e at targets rows : ℕ) (message z places to columns leading gains 
           ∙ add-assoc _ _ _ ∙ ap (add (cell b old j p)) (arriving-add (length to) to _ _ j)
 
 -- the same, with q for the number of the nodes of `at`, and the coefficients lent from buffers
-module _ (b e at targets rows q : ℕ) (message z places to columns leading₀ gains₀ leading gains : List ℕ) (out : ℕ)
+module _ (b e at targets rows q : ℕ) (ha : at < 2 ^ 32) (ht : targets < 2 ^ 32) (message z places to columns leading₀ gains₀ leading gains : List ℕ) (out : ℕ)
     (ok : Extendable b e at targets places to (length message) (length z) out) (hr : rows ≡ size targets) (hq : q ≡ size at) (told : columns ≡ inOrder)
     (hl : rows * e ≤ length leading₀) (hg : rows * q ≤ length gains₀) (bytes : Bytes message)
-    (post : ExtendsPost e at targets (take (rows * e) leading₀) (take (rows * q) gains₀) leading gains) where
+    (post : ExtendsPost e (pointsOf at) (pointsOf targets) (take (rows * e) leading₀) (take (rows * q) gains₀) leading gains) where
   pub extended-lent : (old mid new : List ℕ) → length old ≡ out
       → Added b e message to (take e columns) (take (rows * e) (leading ++ drop (rows * e) leading₀)) old mid
       → Added b q z to places (take (rows * q) (gains ++ drop (rows * q) gains₀)) mid new → Extended b e at targets message z places to old new
@@ -97,6 +100,6 @@ module _ (b e at targets rows q : ℕ) (message z places to columns leading₀ g
       let g = length-take-le (rows * q) gains₀ hg in
       extended b e at targets rows message z places to columns leading gains out ok hr told (post .same-leading ∙ l)
       (post .same-gains ∙ g ∙ ap (_*_ rows) hq) old mid new room bytes
-      (post .written (record { most = ok .most; leading-room = l ∙ ap (λ (m : ℕ). m * e) hr; gains-room = g ∙ ap₂ _*_ hr hq }))
+      (post .written (roomy e at targets _ _ ha ht (ok .most) (l ∙ ap (λ (m : ℕ). m * e) hr) (g ∙ ap₂ _*_ hr hq)))
       (subst (λ (k : List ℕ). Added b e message to (take e columns) k old mid) (buffer-front (rows * e) leading _ (post .same-leading ∙ l)) first)
       (subst₂ (λ (m : ℕ) (k : List ℕ). Added b m z to places k mid new) hq (buffer-front (rows * q) gains _ (post .same-gains ∙ g)) second)

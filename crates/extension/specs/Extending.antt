@@ -6,13 +6,9 @@ use lib.ListN.{length, getD}
 use Rattle.base.specs.Seq.{cell}
 use Rattle.field.specs.Field.{IsByte, add}
 use Rattle.interpolation.specs.Polynomial.{evaluate}
-use Rattle.params.specs.Nodes.{size, listed}
-use Rattle.code.specs.Code.{point}
+use Rattle.params.specs.Nodes.{size}
+use Rattle.code.specs.Points.{pointAt}
 use Rattle.kernels.specs.Blocks.{arriving}
-
--- the point of the set's node i, counted from 0 in rising order
-abbrev pub nodePoint : ℕ → ℕ → ℕ
-nodePoint s i = point (getD (listed s) i 0)
 
 -- what is asked of the lengths of message, z and out: message has e parts, each place names a block of z, and `to` a block of out for each target
 pub record Extendable (b e at targets : ℕ) (places to : List ℕ) (message z out : ℕ) : Type 0 where
@@ -28,7 +24,7 @@ pub record Extendable (b e at targets : ℕ) (places to : List ℕ) (message z o
 pub record Extended (b e at targets : ℕ) (message z places to old new : List ℕ) : Type 0 where
   pub same : length new ≡ length old
   pub added : (p : ℕ) (v : ℕ → ℕ) → p < b → ((j : ℕ) → IsByte (v j))
-      → ((o : ℕ) → o < size at → evaluate e (size at) (λ j. cell b message j p) v (nodePoint at o) ≡ cell b z (getD places o 0) p)
+      → ((o : ℕ) → o < size at → evaluate e (size at) (λ j. cell b message j p) v (pointAt at o) ≡ cell b z (getD places o 0) p)
       → (j : ℕ) → cell b new j p
-      ≡ add (cell b old j p) (arriving (length to) to (λ t. evaluate e (size at) (λ j. cell b message j p) v (nodePoint targets t)) j)
+      ≡ add (cell b old j p) (arriving (length to) to (λ t. evaluate e (size at) (λ j. cell b message j p) v (pointAt targets t)) j)
   pub others : (j p : ℕ) → p < b → ((t : ℕ) → t < length to → getD to t 0 ≡ j → ⊥) → cell b new j p ≡ cell b old j p

@@ -2,8 +2,8 @@
 // coefficients are found once, for all blocks and byte places.
 use base::is_product;
 use blocks::clear;
-use coefficients::completion_rows;
 use kernels::add_product;
+use node_rows::extending_rows;
 use params::NodeSet;
 use params::Params;
 use params::in_order;
@@ -189,7 +189,7 @@ fn extend_within(
     let first = rows * e;
     let second = rows * q;
     let columns = in_order();
-    completion_rows(e, at, targets, &mut leading[..first], &mut gains[..second]);
+    extending_rows(e, at, targets, &mut leading[..first], &mut gains[..second]);
     add_product(out, to, b, message, &columns[..e], &leading[..first], e);
     add_product(out, to, b, z, places, &gains[..second], q);
 }

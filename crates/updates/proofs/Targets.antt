@@ -14,13 +14,13 @@ use Rattle.field.proofs.Addition.{add-zero-left, add-zero-right}
 use Rattle.params.specs.Nodes.{has, count, listed, inOrder, placesOf}
 use Rattle.params.specs.declared.Params.{Params}
 use Rattle.params.proofs.Sets.{rank-lt, node-at-rank, size-count, distinct, within-has}
-use Rattle.params.proofs.Placing.{place-of}
+use Rattle.params.proofs.Placing.{place-of, placed-length, placed-at, placed-inside}
 use Rattle.gates.specs.Valid.{DeltaAccepted, UpdateAccepted}
 use Rattle.code.specs.Code.{block}
 use Rattle.code.specs.Calls.{Differences, Updated}
 use Rattle.code.proofs.Pairs.{spread-exists}
 use Rattle.kernels.proofs.Arriving.{arriving-none, arriving-one}
-use Rattle.coefficients.proofs.Laws.{first-length, first-at, first-inside, placed-length, placed-at, placed-inside}
+use Rattle.coefficients.proofs.Laws.{first-length, first-at, first-inside}
 use Rattle.updates.specs.Spreading.{Spreadable, Spread}
 
 -- ---- one after the other

@@ -24,11 +24,13 @@ use Rattle.params.specs.declared.Params.{Params}
 use Rattle.base.proofs.Questions.{both-known, both-le}
 use Rattle.params.proofs.Sets.{size-count, entry, outside-has, outside-size}
 use Rattle.code.specs.Code.{point, block}
+use Rattle.code.specs.Points.{pointAt, pointsOf}
 use Rattle.code.specs.Calls.{Vanishes}
 use Rattle.kernels.specs.Blocks.{Fits, Added}
 use Rattle.kernels.proofs.Arriving.{arriving-ext}
-use Rattle.coefficients.specs.Coefficients.{pointAt, Extends, Roomy}
+use Rattle.coefficients.specs.Coefficients.{Extends, Roomy}
 use Rattle.coefficients.proofs.Laws.{product-fits, lent-anew, first-length, first-inside, product-first}
+use Rattle.node_rows.proofs.Laws as rows
 use Rattle.updates.specs.Spreading.{Spreadable, Spread}
 
 module _ (a : Params) (d targets old : List ℕ) (to takers other : ℕ) (other-word : other < 2 ^ 32)
@@ -39,13 +41,11 @@ module _ (a : Params) (d targets old : List ℕ) (to takers other : ℕ) (other-
   others = outside-size (a .n) to other (ok .n-high) is other-word (ok .to-within) ∙ ap (λ (m : ℕ). a .n - m) (ok .to-size)
 
   -- what the rows ask; l is that number as the code counts it
-  pub roomy : (l leading gains : ℕ) → l ≡ slackParts a → leading ≡ length targets * a .k → gains ≡ length targets * l → Roomy (a .k) other takers leading gains
-  roomy l leading gains hl full rest =
-      record {
-        most = omega (arith, ok .k-le-n, ok .n-high);
-        leading-room = full ∙ ap (λ (m : ℕ). m * a .k) (ok .count);
-        gains-room = rest ∙ ap₂ _*_ (ok .count) (hl ∙ sym others);
-      }
+  pub roomy : takers < 2 ^ 32 → (l leading gains : ℕ) → l ≡ slackParts a → leading ≡ length targets * a .k → gains ≡ length targets * l
+      → Roomy (a .k) (pointsOf other) (pointsOf takers) leading gains
+  roomy word l leading gains hl full rest =
+      rows.roomy (a .k) other takers leading gains other-word word (omega (arith, ok .k-le-n, ok .n-high)) (full ∙ ap (λ (m : ℕ). m * a .k) (ok .count))
+      (rest ∙ ap₂ _*_ (ok .count) (hl ∙ sym others))
 
   -- node o of them
   other-at : (o : ℕ) → o < size other → (j : ℕ) × (j < a .n) × (has to (suc j) ≡ false) × (getD (listed other) o 0 ≡ suc j)
@@ -55,7 +55,7 @@ module _ (a : Params) (d targets old : List ℕ) (to takers other : ℕ) (other-
       (sym (outside-has (a .n) to other (ok .n-high) is (suc (g .0))) ∙ g .2) in
       (g .0, both-le 1 (suc (g .0)) (suc (g .0)) (a .n) (y .0) .1, not-true (has to (suc (g .0))) (y .1), g .3)
 
-  module _ (leading gains : List ℕ) (extends : Extends (a .k) other takers leading gains) (bytes : Bytes d) (v : List ℕ) (vanishes : Vanishes a d to v) where
+  module _ (leading gains : List ℕ) (extends : Extends (a .k) (pointsOf other) (pointsOf takers) leading gains) (bytes : Bytes d) (v : List ℕ) (vanishes : Vanishes a d to v) where
     -- the change's polynomial at byte place p
     at : ℕ → ℕ → ℕ → ℕ
     at p m c = evaluate (a .k) m (λ j. cell (a .b) d j p) (λ j. cell (a .b) v j p) c
@@ -76,14 +76,14 @@ module _ (a : Params) (d targets old : List ℕ) (to takers other : ℕ) (other-
     unfolding at
     at-rank t p ht hp =
         sym
-        (extends .takes (λ i. cell (a .b) d i p) (λ i. cell (a .b) v i p) (λ i. cell-byte (a .b) d i p bytes)
+        (rows.extends-nodes (a .k) other takers leading gains extends (λ i. cell (a .b) d i p) (λ i. cell (a .b) v i p) (λ i. cell-byte (a .b) d i p bytes)
         (λ i. cell-byte (a .b) v i p (vanishes .slack .bytes)) t ht
         ∙ ap (add (sum (a .k) (λ i. mul (cell (a .k) leading t i) (cell (a .b) d i p))))
         (sum-zeros (size other) _ (λ o ho. ap (mul (cell (size other) gains t o)) (clears p o hp ho) ∙ mul-zero-right _))
         ∙ add-zero-right _)
         ∙ at-block p (size other) (getD (listed takers) t 0) others
 
-  pub spread : (leading gains rest order new : List ℕ) → length leading ≡ length targets * a .k → Extends (a .k) other takers leading gains → Bytes d → order ≡ inOrder
+  pub spread : (leading gains rest order new : List ℕ) → length leading ≡ length targets * a .k → Extends (a .k) (pointsOf other) (pointsOf takers) leading gains → Bytes d → order ≡ inOrder
       → Added (a .b) (a .k) (take (length d) d) (take (length targets) targets) (take (a .k) order) (take (length targets * a .k) (leading ++ rest)) old new
       → Spread a d to takers targets old new
   spread leading gains rest order new full extends bytes o lent =

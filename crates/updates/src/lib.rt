@@ -1,10 +1,10 @@
 // Document 01's difference and change: what a change of the message adds to the blocks of the nodes that it writes, so that the others keep theirs. Each is its
 // gate, and then a private core: a small matrix of coefficients is found once, and one product adds what the change makes to the blocks that it goes to.
 use blocks::clear;
-use coefficients::completion_rows;
 use gates::delta_gate;
 use gates::update_gate;
 use kernels::add_product;
+use node_rows::extending_rows;
 use params::NodeSet;
 use params::Params;
 use params::in_order;
@@ -118,7 +118,7 @@ fn spread_within(
     let leading_area = m * k;
     let gains_area = m * l;
     let outside = to.outside(a.n);
-    completion_rows(
+    extending_rows(
         k,
         outside,
         takers,

@@ -9,8 +9,8 @@ use denote.Ref.{now}
 use lib.ListN.{length}
 use Rattle.params.specs.Nodes.{size, placesOf, inOrder}
 use Rattle.params.proofs.Sets.{size-most}
-use Rattle.params.proofs.Placing.{length-places, length-in-order, placing-zeros}
-use Rattle.coefficients.proofs.Laws.{placed-length, first-length}
+use Rattle.params.proofs.Placing.{length-places, length-in-order, placing-zeros, placed-length}
+use Rattle.coefficients.proofs.Laws.{first-length}
 use Rattle.placing.proofs.Tests.{told-equal, told-other}
 use Rattle.extension.specs.Blocks.{CompleteAsks}
 use Rattle.extension.proofs.Completing.{complete-idle, complete-asks, completed}

@@ -4,8 +4,8 @@ use native.Mathlib.Omega.{arith}
 use borrow.Author.Needs.{needs}
 use denote.Ref.{now}
 use lib.ListN.{length}
+use Rattle.base.proofs.Buffers.{areas-fit}
 use Rattle.params.proofs.Sets.{size-most}
-use Rattle.coefficients.proofs.Laws.{areas-fit}
 use Rattle.updates.proofs.spread.Statement.{statement}
 use Rattle.updates.proofs.spread.Tie as tie
 

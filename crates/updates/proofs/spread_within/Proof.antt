@@ -7,12 +7,15 @@ use borrow.Author.Needs.{needs}
 use denote.Ref.{now}
 use lib.ListN.{length, drop}
 use lib.Seq.{take-length, length-take-le}
+use Rattle.base.proofs.Buffers.{areas-fit, buffer-fits, buffer-count}
 use Rattle.params.specs.Params.{slackParts}
 use Rattle.params.proofs.Sets.{size-most}
-use Rattle.coefficients.proofs.Laws.{areas-fit, buffer-fits, buffer-count}
 use Rattle.updates.proofs.Vanishing.{roomy, spread}
 use Rattle.updates.proofs.spread_within.Statement.{statement}
 use Rattle.updates.proofs.spread_within.Tie as tie
+
+takers-word : (c : tie.Start) → c .args .takers .0 < 2 ^ 32
+takers-word c = omega arith
 
 slack-parts-requires : tie.Need-slack-parts-requires
 slack-parts-requires c κs = search needs
@@ -24,7 +27,7 @@ module _ (c : tie.After-slack-parts) where
   slack-most = omega (arith, c .slack-parts .ensures)
 
   takers-most : length (now (c .before .before .before .before .before .before .args .targets)) ≤ 32
-  takers-most = omega (arith, c .before .before .before .before .before .before .pre .0 .count, size-most (c .before .before .before .before .before .before .args .takers .0) (omega arith))
+  takers-most = omega (arith, c .before .before .before .before .before .before .pre .0 .count, size-most _ (takers-word (c .before .before .before .before .before .before)))
 
   leading-room : length (now (c .before .before .before .before .before .before .args .targets)) * c .before .before .before .before .before .before .args .a .k
       ≤ length (now (c .before .before .before .before .before .before .args .leading))
@@ -50,22 +53,22 @@ outside-requires c κs = search needs
 outside-word : (c : tie.After-outside) → c .outside .result .0 < 2 ^ 32
 outside-word c = omega (arith, c .outside .ok)
 
-slice-relend-prefix-completion-rows : tie.Need-slice-relend-prefix-completion-rows
-slice-relend-prefix-completion-rows c = leading-room (c .before)
+slice-relend-prefix-extending-rows : tie.Need-slice-relend-prefix-extending-rows
+slice-relend-prefix-extending-rows c = leading-room (c .before)
 
-slice-aggregate-completion-rows : tie.Need-slice-aggregate-completion-rows
-slice-aggregate-completion-rows c = sym (length-take-le _ (now (c .before .before .before .before .before .before .before .before .args .leading)) (slice-relend-prefix-completion-rows (c .before)))
+slice-aggregate-extending-rows : tie.Need-slice-aggregate-extending-rows
+slice-aggregate-extending-rows c = sym (length-take-le _ (now (c .before .before .before .before .before .before .before .before .args .leading)) (slice-relend-prefix-extending-rows (c .before)))
 
-slice-relend-prefix-completion-rows-2 : tie.Need-slice-relend-prefix-completion-rows-2
-slice-relend-prefix-completion-rows-2 c = gains-room (c .before .before)
+slice-relend-prefix-extending-rows-2 : tie.Need-slice-relend-prefix-extending-rows-2
+slice-relend-prefix-extending-rows-2 c = gains-room (c .before .before)
 
-slice-aggregate-completion-rows-2 : tie.Need-slice-aggregate-completion-rows-2
-slice-aggregate-completion-rows-2 c =
+slice-aggregate-extending-rows-2 : tie.Need-slice-aggregate-extending-rows-2
+slice-aggregate-extending-rows-2 c =
     let s = c .before .before .before .before .before .before .before .before .before in
-    sym (length-take-le _ (now (s .args .gains)) (slice-relend-prefix-completion-rows-2 (c .before)))
+    sym (length-take-le _ (now (s .args .gains)) (slice-relend-prefix-extending-rows-2 (c .before)))
 
-completion-rows-requires : tie.Need-completion-rows-requires
-completion-rows-requires c κs = search needs
+extending-rows-requires : tie.Need-extending-rows-requires
+extending-rows-requires c κs = search needs
 
 in-order-requires : tie.Need-in-order-requires
 in-order-requires c κs = search needs
@@ -87,23 +90,23 @@ slice-aggregate-add-product-3 : tie.Need-slice-aggregate-add-product-3
 slice-aggregate-add-product-3 c = sym (length-take-le _ (c .before .before .before .before .in-order .result) (array-share-prefix-order (c .before)))
 
 -- the leading rows fill their part of the room
-leading-full : (c : tie.After-completion-rows)
-    → length (c .completion-rows .last .1 .1 .1 .0)
+leading-full : (c : tie.After-extending-rows)
+    → length (c .extending-rows .last .1 .1 .1 .0)
     ≡ length (now (c .before .before .before .before .before .before .before .before .before .before .args .targets))
     * c .before .before .before .before .before .before .before .before .before .before .args .a .k
-leading-full c = c .completion-rows .ensures .same-leading ∙ sym (slice-aggregate-completion-rows (c .before .before))
+leading-full c = c .extending-rows .ensures .same-leading ∙ sym (slice-aggregate-extending-rows (c .before .before))
 
 slice-reshare-prefix-add-product : tie.Need-slice-reshare-prefix-add-product
 slice-reshare-prefix-add-product c =
     let e = c .before .before .before .before .before .before .before .before .before in
     let s = e .before .before .before .before .before .before .before .before .before .before in
-    buffer-fits _ (e .completion-rows .last .1 .1 .1 .0) (drop (length (now (s .args .targets)) * s .args .a .k) (now (s .args .leading))) (leading-full e)
+    buffer-fits _ (e .extending-rows .last .1 .1 .1 .0) (drop (length (now (s .args .targets)) * s .args .a .k) (now (s .args .leading))) (leading-full e)
 
 slice-aggregate-add-product-4 : tie.Need-slice-aggregate-add-product-4
 slice-aggregate-add-product-4 c =
     let e = c .before .before .before .before .before .before .before .before .before .before in
     let s = e .before .before .before .before .before .before .before .before .before .before in
-    buffer-count _ (e .completion-rows .last .1 .1 .1 .0) (drop (length (now (s .args .targets)) * s .args .a .k) (now (s .args .leading))) (leading-full e)
+    buffer-count _ (e .extending-rows .last .1 .1 .1 .0) (drop (length (now (s .args .targets)) * s .args .a .k) (now (s .args .leading))) (leading-full e)
 
 add-product-requires : tie.Need-add-product-requires
 add-product-requires c κs = search needs
@@ -126,12 +129,12 @@ returns c =
     let u = g .before .before in
     let z = u .before in
     let s = z .before .before .before .before .before .before in
-    let full = sym (slice-aggregate-completion-rows (g .before)) in
+    let full = sym (slice-aggregate-extending-rows (g .before)) in
     let room = roomy (s .args .a) (now (s .args .change)) (now (s .args .targets)) (now (s .args .out)) (s .args .to .0) (s .args .takers .0) (u .outside .result .0) (outside-word u) (s .pre .0)
-    (u .outside .ensures) _ _ _ (z .slack-parts .ensures) full (sym (slice-aggregate-completion-rows-2 g)) in
+    (u .outside .ensures) (takers-word s) _ _ _ (z .slack-parts .ensures) full (sym (slice-aggregate-extending-rows-2 g)) in
     spread (s .args .a) (now (s .args .change)) (now (s .args .targets)) (now (s .args .out)) (s .args .to .0) (s .args .takers .0) (u .outside .result .0) (outside-word u) (s .pre .0)
-    (u .outside .ensures) (e .completion-rows .last .1 .1 .1 .0) (e .completion-rows .last .1 .1 .1 .1 .0) _ (o .in-order .result) _
-    (leading-full e) (e .completion-rows .ensures .written room)
+    (u .outside .ensures) (e .extending-rows .last .1 .1 .1 .0) (e .extending-rows .last .1 .1 .1 .1 .0) _ (o .in-order .result) _
+    (leading-full e) (e .extending-rows .ensures .written room)
     (λ i. omega (arith, z .before .before .before .before .before .shared-slice-known .given i)) (o .in-order .ensures) (p .add-product .ensures)
 
 pub spread-within-spec : {M : Type 1} → statement M
@@ -142,11 +145,11 @@ spread-within-spec =
     mul-leading-area
     mul-gains-area
     outside-requires
-    slice-relend-prefix-completion-rows
-    slice-aggregate-completion-rows
-    slice-relend-prefix-completion-rows-2
-    slice-aggregate-completion-rows-2
-    completion-rows-requires
+    slice-relend-prefix-extending-rows
+    slice-aggregate-extending-rows
+    slice-relend-prefix-extending-rows-2
+    slice-aggregate-extending-rows-2
+    extending-rows-requires
     in-order-requires
     slice-aggregate-add-product
     slice-aggregate-add-product-2

@@ -11,6 +11,7 @@ use Rattle.params.specs.Nodes.{size, placesOf}
 use Rattle.params.proofs.Sets.{size-most}
 use Rattle.params.proofs.Placing.{placing-zeros}
 use Rattle.coefficients.proofs.Laws.{lent-anew}
+use Rattle.node_rows.proofs.Laws.{readable}
 use Rattle.access.proofs.ReadBack.{part-each, parts-few, recovered}
 use Rattle.access.proofs.decoding.decode_within.Statement.{statement}
 use Rattle.access.proofs.decoding.decode_within.Tie as tie
@@ -46,20 +47,20 @@ places-of-requires c κs = search needs
 places : (c : tie.After-places-of) → c .places-of .last .1 .0 ≡ placesOf (c .before .before .before .before .before .before .args .from .0)
 places c = placing-zeros _ _ (word (c .before .before .before .before .before .before)) (c .places-of .ensures)
 
-slice-relend-prefix-reading-rows : tie.Need-slice-relend-prefix-reading-rows
-slice-relend-prefix-reading-rows c = area (c .before .before .before)
+slice-relend-prefix-decoding-rows : tie.Need-slice-relend-prefix-decoding-rows
+slice-relend-prefix-decoding-rows c = area (c .before .before .before)
 
-slice-aggregate-reading-rows : tie.Need-slice-aggregate-reading-rows
-slice-aggregate-reading-rows c = sym (length-take-le _ (now (c .before .before .before .before .before .before .before .before .args .rows)) (slice-relend-prefix-reading-rows (c .before)))
+slice-aggregate-decoding-rows : tie.Need-slice-aggregate-decoding-rows
+slice-aggregate-decoding-rows c = sym (length-take-le _ (now (c .before .before .before .before .before .before .before .before .args .rows)) (slice-relend-prefix-decoding-rows (c .before)))
 
-reading-rows-requires : tie.Need-reading-rows-requires
-reading-rows-requires c κs = search needs
+decoding-rows-requires : tie.Need-decoding-rows-requires
+decoding-rows-requires c κs = search needs
 
 -- which the rows fill
-filled : (c : tie.After-reading-rows)
-    → length (c .reading-rows .last .1 .1 .0)
+filled : (c : tie.After-decoding-rows)
+    → length (c .decoding-rows .last .1 .1 .0)
     ≡ c .before .before .before .before .before .before .before .before .before .args .a .k * c .before .before .before .before .before .size .result
-filled c = c .reading-rows .ensures .same ∙ sym (slice-aggregate-reading-rows (c .before))
+filled c = c .decoding-rows .ensures .same ∙ sym (slice-aggregate-decoding-rows (c .before))
 
 in-order-requires : tie.Need-in-order-requires
 in-order-requires c κs = search needs
@@ -92,13 +93,13 @@ slice-reshare-prefix-add-product : tie.Need-slice-reshare-prefix-add-product
 slice-reshare-prefix-add-product c =
     let r = c .before .before .before .before .before .before .before .before .before .before .before in
     let s = r .before .before .before .before .before .before .before .before .before in
-    buffer-fits _ (r .reading-rows .last .1 .1 .0) (drop (s .args .a .k * r .before .before .before .before .before .size .result) (now (s .args .rows))) (filled r)
+    buffer-fits _ (r .decoding-rows .last .1 .1 .0) (drop (s .args .a .k * r .before .before .before .before .before .size .result) (now (s .args .rows))) (filled r)
 
 slice-aggregate-add-product-4 : tie.Need-slice-aggregate-add-product-4
 slice-aggregate-add-product-4 c =
     let r = c .before .before .before .before .before .before .before .before .before .before .before .before in
     let s = r .before .before .before .before .before .before .before .before .before in
-    buffer-count _ (r .reading-rows .last .1 .1 .0) (drop (s .args .a .k * r .before .before .before .before .before .size .result) (now (s .args .rows))) (filled r)
+    buffer-count _ (r .decoding-rows .last .1 .1 .0) (drop (s .args .a .k * r .before .before .before .before .before .size .result) (now (s .args .rows))) (filled r)
 
 add-product-requires : tie.Need-add-product-requires
 add-product-requires c κs = search needs
@@ -119,13 +120,13 @@ returns c =
     let z = l .before .before in
     let s = z .before .before .before .before in
     let q = z .size .result in
-    let rows = r .reading-rows .last .1 .1 .0 in
+    let rows = r .decoding-rows .last .1 .1 .0 in
     let rest = drop (s .args .a .k * q) (now (s .args .rows)) in
     let few : s .args .a .k ≤ size (s .args .from .0) = part-each _ _ _ (word s) (now (s .args .codeword)) (s .pre .0) in
-    let room = sym (slice-aggregate-reading-rows (r .before)) ∙ ap (λ (n : ℕ). s .args .a .k * n) (z .size .ensures) in
+    let room = sym (slice-aggregate-decoding-rows (r .before)) ∙ ap (λ (n : ℕ). s .args .a .k * n) (z .size .ensures) in
     recovered (s .args .a) (s .args .from .0) _ (word s) (now (s .args .codeword)) (s .pre .0) q (l .places-of .last .1 .0)
     (o .in-order .result) rows _ _ (e .clear .ensures)
-    (z .size .ensures) (places l) (o .in-order .ensures) (filled r) (r .reading-rows .ensures .written (record { few = few; room = room }))
+    (z .size .ensures) (places l) (o .in-order .ensures) (filled r) (r .decoding-rows .ensures .written (readable _ _ _ (word s) few room))
     (lent-anew (s .args .a .b) q _ (now (s .args .codeword)) rows rest _ _ _ _ (filled r) (p .add-product .ensures))
 
 pub decode-within-spec : {M : Type 1} → statement M
@@ -136,9 +137,9 @@ decode-within-spec =
     mul-area
     slice-aggregate-places-of
     places-of-requires
-    slice-relend-prefix-reading-rows
-    slice-aggregate-reading-rows
-    reading-rows-requires
+    slice-relend-prefix-decoding-rows
+    slice-aggregate-decoding-rows
+    decoding-rows-requires
     in-order-requires
     clear-requires
     array-share-prefix-order

@@ -26,18 +26,18 @@ mul-area c =
     let s = c .before .before .before .before in
     omega (arith, area-is (s .args .a) _ _ (s .pre .0) (c .working .result) (c .working .ensures), powers-most (s .args .a) _ _ (s .pre .0))
 
-slice-relend-prefix-power-rows : tie.Need-slice-relend-prefix-power-rows
-slice-relend-prefix-power-rows c = area c
+slice-relend-prefix-encoding-rows : tie.Need-slice-relend-prefix-encoding-rows
+slice-relend-prefix-encoding-rows c = area c
 
-slice-aggregate-power-rows : tie.Need-slice-aggregate-power-rows
-slice-aggregate-power-rows c = sym (length-take-le _ (now (c .before .before .before .before .before .args .rows)) (area (c .before)))
+slice-aggregate-encoding-rows : tie.Need-slice-aggregate-encoding-rows
+slice-aggregate-encoding-rows c = sym (length-take-le _ (now (c .before .before .before .before .before .args .rows)) (area (c .before)))
 
-power-rows-requires : tie.Need-power-rows-requires
-power-rows-requires c κs = search needs
+encoding-rows-requires : tie.Need-encoding-rows-requires
+encoding-rows-requires c κs = search needs
 
 -- which fill their part of it
-powered : (c : tie.After-power-rows) → length (c .power-rows .last .1 .1 .0) ≡ c .before .before .before .before .before .before .args .a .n * c .before .before .working .result
-powered c = c .power-rows .kept .1 .1 .0 ∙ sym (slice-aggregate-power-rows (c .before))
+powered : (c : tie.After-encoding-rows) → length (c .encoding-rows .last .1 .1 .0) ≡ c .before .before .before .before .before .before .args .a .n * c .before .before .working .result
+powered c = c .encoding-rows .kept .1 .1 .0 ∙ sym (slice-aggregate-encoding-rows (c .before))
 
 in-order-requires : tie.Need-in-order-requires
 in-order-requires c κs = search needs
@@ -71,13 +71,13 @@ slice-reshare-prefix-add-product : tie.Need-slice-reshare-prefix-add-product
 slice-reshare-prefix-add-product c =
     let r = c .before .before .before .before .before .before .before .before .before .before .before .before in
     let s = r .before .before .before .before .before .before in
-    buffer-fits _ (r .power-rows .last .1 .1 .0) (drop (s .args .a .n * r .before .before .working .result) (now (s .args .rows))) (powered r)
+    buffer-fits _ (r .encoding-rows .last .1 .1 .0) (drop (s .args .a .n * r .before .before .working .result) (now (s .args .rows))) (powered r)
 
 slice-aggregate-add-product-4 : tie.Need-slice-aggregate-add-product-4
 slice-aggregate-add-product-4 c =
     let r = c .before .before .before .before .before .before .before .before .before .before .before .before .before in
     let s = r .before .before .before .before .before .before in
-    buffer-count _ (r .power-rows .last .1 .1 .0) (drop (s .args .a .n * r .before .before .working .result) (now (s .args .rows))) (powered r)
+    buffer-count _ (r .encoding-rows .last .1 .1 .0) (drop (s .args .a .n * r .before .before .working .result) (now (s .args .rows))) (powered r)
 
 add-product-requires : tie.Need-add-product-requires
 add-product-requires c κs = search needs
@@ -98,10 +98,10 @@ returns c =
     let z = r .before .before in
     let s = z .before .before .before .before in
     let q = z .working .result in
-    let last = r .power-rows .last .1 .1 .0 in
+    let last = r .encoding-rows .last .1 .1 .0 in
     let rest = drop (s .args .a .n * q) (now (s .args .rows)) in
     encoded (s .args .a) _ _ (s .pre .0) q (z .working .ensures) last
-    (r .power-rows .ensures .written (s .pre .0 .n-high) (sym (slice-aggregate-power-rows (r .before))))
+    (r .encoding-rows .ensures .written (s .pre .0 .n-high) (sym (slice-aggregate-encoding-rows (r .before))))
     (now (s .args .parts)) (o .in-order .result) (k .in-order2 .result) _ _ (s .pre .0 .parts-length)
     (e .clear .ensures ∙ ap (λ (n : ℕ). replicate n 0) (s .pre .0 .codeword-length))
     (o .in-order .ensures) (k .in-order2 .ensures)
@@ -113,9 +113,9 @@ encode-within-spec =
     (tie.spec
     working-requires
     mul-area
-    slice-relend-prefix-power-rows
-    slice-aggregate-power-rows
-    power-rows-requires
+    slice-relend-prefix-encoding-rows
+    slice-aggregate-encoding-rows
+    encoding-rows-requires
     in-order-requires
     in-order-requires-2
     clear-requires

@@ -7,8 +7,8 @@ use borrow.Author.Needs.{needs}
 use denote.Ref.{now}
 use lib.ListN.{length}
 use lib.Seq.{length-take-le}
+use Rattle.base.proofs.Buffers.{buffer-front, buffer-fits, buffer-count}
 use Rattle.params.specs.Params.{working}
-use Rattle.coefficients.proofs.Laws.{buffer-front, buffer-fits, buffer-count}
 use Rattle.placing.specs.Placed.{ComparePost}
 use Rattle.maintenance.proofs.Examining.{working-exact, others-count, agrees, differs}
 use Rattle.maintenance.proofs.checking.check_within.Statement.{statement}
