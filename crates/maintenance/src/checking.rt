@@ -41,19 +41,16 @@ fn check_over_128(a: Params, codeword: &[u8]) -> Verdict
     requires { ⌜ Checkable a (length (now codeword)) ⌝ }
     ensures { λ r. ⌜ Examined a (now (codeword .entry)) r ⌝ }
 {
-    if (a.n - a.working()) * a.b <= 1024 {
-        return check_1024(a, codeword);
+    let size = (a.n - a.working()) * a.b;
+    if size <= 1024 {
+        let mut fresh = [0u8; 1024];
+        return check_within(a, codeword, &mut fresh);
+    }
+    if size <= 8192 {
+        let mut fresh = [0u8; 8192];
+        return check_within(a, codeword, &mut fresh);
     }
     let mut fresh = [0u8; 32768];
-    check_within(a, codeword, &mut fresh)
-}
-
-fn check_1024(a: Params, codeword: &[u8]) -> Verdict
-    requires { ⌜ Checkable a (length (now codeword)) ⌝ }
-    requires { ⌜ (a .n - working a) * a .b ≤ 1024 ⌝ }
-    ensures { λ r. ⌜ Examined a (now (codeword .entry)) r ⌝ }
-{
-    let mut fresh = [0u8; 1024];
     check_within(a, codeword, &mut fresh)
 }
 

@@ -22,8 +22,8 @@ pub fn repair(a: Params, codeword: &mut [u8], from: NodeSet, lost: NodeSet) -> u
     0
 }
 
-// Makes room for the lost blocks, no more than is wanted, since room is cleared at each call: 128, 1,024 or 32,768 bytes. The function for the larger rooms is
-// called at two places, and the first test is there for that alone: the compiler then keeps it apart, and a small call takes no stack for them.
+// Makes room for the lost blocks, no more than is wanted, since room is cleared at each call. The function for rooms over 128 bytes has three of them and is called
+// at two places, the first test being there for that alone: the compiler then keeps it apart, and a small call takes no stack for these rooms.
 fn repair_blocks(a: Params, codeword: &mut [u8], from: NodeSet, lost: NodeSet)
     requires { ⌜ Rebuildable a (from .0) (lost .0) (length (now codeword)) ⌝ }
     ensures { λ _. ⌜ Rebuilt a (from .0) (lost .0) (now (codeword .entry)) (now (codeword .exit)) ⌝ }
@@ -44,20 +44,18 @@ fn repair_over_128(a: Params, codeword: &mut [u8], from: NodeSet, lost: NodeSet)
     requires { ⌜ Rebuildable a (from .0) (lost .0) (length (now codeword)) ⌝ }
     ensures { λ _. ⌜ Rebuilt a (from .0) (lost .0) (now (codeword .entry)) (now (codeword .exit)) ⌝ }
 {
-    if lost.size() * a.b <= 1024 {
-        repair_1024(a, codeword, from, lost);
+    let size = lost.size() * a.b;
+    if size <= 1024 {
+        let mut fresh = [0u8; 1024];
+        repair_within(a, codeword, from, lost, &mut fresh);
+        return;
+    }
+    if size <= 8192 {
+        let mut fresh = [0u8; 8192];
+        repair_within(a, codeword, from, lost, &mut fresh);
         return;
     }
     let mut fresh = [0u8; 32768];
-    repair_within(a, codeword, from, lost, &mut fresh);
-}
-
-fn repair_1024(a: Params, codeword: &mut [u8], from: NodeSet, lost: NodeSet)
-    requires { ⌜ Rebuildable a (from .0) (lost .0) (length (now codeword)) ⌝ }
-    requires { ⌜ size (lost .0) * a .b ≤ 1024 ⌝ }
-    ensures { λ _. ⌜ Rebuilt a (from .0) (lost .0) (now (codeword .entry)) (now (codeword .exit)) ⌝ }
-{
-    let mut fresh = [0u8; 1024];
     repair_within(a, codeword, from, lost, &mut fresh);
 }
 

@@ -35,8 +35,8 @@ pub fn reconfigure(
     0
 }
 
-// Makes room for the old pair's blocks outside W', no more than is wanted, since room is cleared at each call: 128, 1,024 or 32,768 bytes. The function for the
-// larger rooms is called at two places, and the first test is there for that alone: the compiler then keeps it apart, and a small call takes no stack for them.
+// Makes room for the old pair's blocks outside W', no more than is wanted, since room is cleared at each call. The function for rooms over 128 bytes has three of
+// them and is called at two places, the first test being there for that alone: the compiler then keeps it apart, and a small call takes no stack for these rooms.
 fn reconfigure_blocks(
     a: Params,
     shape: Shape,
@@ -73,28 +73,18 @@ fn reconfigure_over_128(
     requires { ⌜ Reconfigurable a shape (length (now codeword)) (length (now out)) (length (now message)) (from .0) (to .0) ⌝ }
     ensures { λ _. ⌜ Rewritten a shape (now (codeword .entry)) (from .0) (to .0) (now (message .entry)) (now (out .exit)) ⌝ }
 {
-    if to.outside(shape.n).size() * a.b <= 1024 {
-        reconfigure_1024(a, shape, codeword, from, to, message, out);
+    let size = to.outside(shape.n).size() * a.b;
+    if size <= 1024 {
+        let mut z = [0u8; 1024];
+        reconfigure_within(a, shape, codeword, from, to, message, &mut z, out);
+        return;
+    }
+    if size <= 8192 {
+        let mut z = [0u8; 8192];
+        reconfigure_within(a, shape, codeword, from, to, message, &mut z, out);
         return;
     }
     let mut z = [0u8; 32768];
-    reconfigure_within(a, shape, codeword, from, to, message, &mut z, out);
-}
-
-fn reconfigure_1024(
-    a: Params,
-    shape: Shape,
-    codeword: &[u8],
-    from: NodeSet,
-    to: NodeSet,
-    message: &[u8],
-    out: &mut [u8],
-)
-    requires { ⌜ Reconfigurable a shape (length (now codeword)) (length (now out)) (length (now message)) (from .0) (to .0) ⌝ }
-    requires { ⌜ slackParts (reshaped a shape) * a .b ≤ 1024 ⌝ }
-    ensures { λ _. ⌜ Rewritten a shape (now (codeword .entry)) (from .0) (to .0) (now (message .entry)) (now (out .exit)) ⌝ }
-{
-    let mut z = [0u8; 1024];
     reconfigure_within(a, shape, codeword, from, to, message, &mut z, out);
 }
 

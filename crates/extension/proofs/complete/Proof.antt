@@ -92,7 +92,8 @@ lists c =
 
 -- what was tested
 asked : (c : tie.After-slice-known2)
-    → CompleteAsks (own c .args .b) (own c .args .e) (own c .args .at .0) (own c .args .targets .0) (length (now (own c .args .message))) (length (now (own c .args .z))) (length (now (own c .args .out)))
+    → CompleteAsks (own c .args .b) (own c .args .e) (own c .args .at .0) (own c .args .targets .0)
+    (length (now (own c .args .message))) (length (now (own c .args .z))) (length (now (own c .args .out)))
 asked c =
     let t = c .before .before .before .before .before .before .before .before in
     let v = t .before .before in

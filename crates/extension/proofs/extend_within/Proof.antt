@@ -92,10 +92,14 @@ add-product-requires : tie.Need-add-product-requires
 add-product-requires c κs = search needs
 
 slice-reshare-prefix-add-product-2 : tie.Need-slice-reshare-prefix-add-product-2
-slice-reshare-prefix-add-product-2 c = let r = c .before .before .before .before .before .before .before .before .before .before .before in buffer-fits _ (r .extending-rows .last .1 .1 .1 .1 .0) _ (gains-back r)
+slice-reshare-prefix-add-product-2 c =
+    let r = c .before .before .before .before .before .before .before .before .before .before .before in
+    buffer-fits _ (r .extending-rows .last .1 .1 .1 .1 .0) _ (gains-back r)
 
 slice-aggregate-add-product-3 : tie.Need-slice-aggregate-add-product-3
-slice-aggregate-add-product-3 c = let r = c .before .before .before .before .before .before .before .before .before .before .before .before in buffer-count _ (r .extending-rows .last .1 .1 .1 .1 .0) _ (gains-back r)
+slice-aggregate-add-product-3 c =
+    let r = c .before .before .before .before .before .before .before .before .before .before .before .before in
+    buffer-count _ (r .extending-rows .last .1 .1 .1 .1 .0) _ (gains-back r)
 
 add-product-requires-2 : tie.Need-add-product-requires-2
 add-product-requires-2 c κs = search needs

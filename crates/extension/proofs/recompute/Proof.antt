@@ -41,7 +41,9 @@ word-from : (c : tie.Start) → c .args .from .0 < 2 ^ 32
 word-from c = omega arith
 
 returns-2 : tie.Need-returns-2
-returns-2 c = recompute-idle _ _ _ _ _ (λ ok. true≢false (sym (within-has _ _ (word-from (start (c .before .before .before .before))) .1 (ok .inside)) ∙ sym (c .before .within .ensures) ∙ not-true _ (c .if2 .taken)))
+returns-2 c =
+    recompute-idle _ _ _ _ _
+    (λ ok. true≢false (sym (within-has _ _ (word-from (start (c .before .before .before .before))) .1 (ok .inside)) ∙ sym (c .before .within .ensures) ∙ not-true _ (c .if2 .taken)))
 
 is-product-requires : tie.Need-is-product-requires
 is-product-requires c κs = search needs
@@ -88,7 +90,8 @@ abbrev at : tie.After-extend-arg → tie.Start
 at c = start (sized c)
 
 lists : (c : tie.After-extend-arg)
-    → Lists (at c .args .from .0) (at c .args .targets .0) (sized c .before .size .result) (sized c .size2 .result) (c .before .before .before .before .before .before .before .places-of .last .1 .0) (c .before .before .before .before .before .in-order .result)
+    → Lists (at c .args .from .0) (at c .args .targets .0) (sized c .before .size .result) (sized c .size2 .result)
+    (c .before .before .before .before .before .before .before .places-of .last .1 .0) (c .before .before .before .before .before .in-order .result)
 lists c =
     record {
       from-word = word-from (at c);
@@ -130,7 +133,8 @@ extend-requires : tie.Need-extend-requires
 extend-requires c κs =
     let e = c .before .before .before in
     let l = lists e in
-    recompute-asks _ _ _ _ _ _ (l .from-word) (l .targets-word) (l .from-count) (l .targets-count) (l .placed) (l .ordered) (at e .args .a) (now (at e .args .codeword)) (now (at e .args .fresh)) (asked e) _ (e .before .before .before .clear .kept .0)
+    recompute-asks _ _ _ _ _ _ (l .from-word) (l .targets-word) (l .from-count) (l .targets-count) (l .placed) (l .ordered) (at e .args .a) (now (at e .args .codeword))
+    (now (at e .args .fresh)) (asked e) _ (e .before .before .before .clear .kept .0)
 
 same-length : tie.Need-same-length
 same-length c = search needs
@@ -139,7 +143,8 @@ returns-5 : tie.Need-returns-5
 returns-5 c =
     let e = c .before .before .before .before .before .before in
     let l = lists e in
-    recomputed _ _ _ _ _ _ (l .from-word) (l .targets-word) (l .from-count) (l .targets-count) (l .placed) (l .ordered) (at e .args .a) (now (at e .args .codeword)) (now (at e .args .fresh)) (asked e) _ _ _
+    recomputed _ _ _ _ _ _ (l .from-word) (l .targets-word) (l .from-count) (l .targets-count) (l .placed) (l .ordered) (at e .args .a) (now (at e .args .codeword))
+    (now (at e .args .fresh)) (asked e) _ _ _
     (e .before .before .before .clear .ensures) (e .before .before .before .clear .kept .0) (c .before .before .extend .ensures)
 
 pub recompute-spec : {M : Type 1} → statement M

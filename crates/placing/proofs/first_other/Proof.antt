@@ -31,13 +31,16 @@ is-product-requires : tie.Need-is-product-requires Inv-loop μ-loop
 is-product-requires c κs = search needs
 
 returns : tie.Need-returns Inv-loop μ-loop
-returns c = compare-idle _ _ _ _ (λ ok. told-other _ _ _ (c .before .is-product .ensures) (c .if1 .taken) (ok .room ∙ ap (λ (m : ℕ). m * c .before .before .before .before .before .args .b) (sym (c .before .before .size .ensures))))
+returns c =
+    let b = c .before .before .before .before .before .args .b in
+    compare-idle _ _ _ _ (λ ok. told-other _ _ _ (c .before .is-product .ensures) (c .if1 .taken) (ok .room ∙ ap (λ (m : ℕ). m * b) (sym (c .before .before .size .ensures))))
 
 has-blocks-requires : tie.Need-has-blocks-requires Inv-loop μ-loop
 has-blocks-requires c κs = search needs
 
 -- fresh has one block for each node
-whole : (c : tie.Else1 Inv-loop μ-loop) → length (now (c .before .before .before .before .before .args .fresh)) ≡ size (c .before .before .before .before .before .args .set .0) * c .before .before .before .before .before .args .b
+whole : (c : tie.Else1 Inv-loop μ-loop)
+    → length (now (c .before .before .before .before .before .args .fresh)) ≡ size (c .before .before .before .before .before .args .set .0) * c .before .before .before .before .before .args .b
 whole c = told-equal _ _ _ (c .before .is-product .ensures) (c .if1 .left) ∙ ap (λ (m : ℕ). m * c .before .before .before .before .before .args .b) (c .before .before .size .ensures)
 
 returns-2 : tie.Need-returns-2 Inv-loop μ-loop

@@ -31,13 +31,16 @@ is-product-requires : tie.Need-is-product-requires Inv-loop μ-loop
 is-product-requires c κs = search needs
 
 returns : tie.Need-returns Inv-loop μ-loop
-returns c = put-idle _ _ _ _ (λ ok. told-other _ _ _ (c .before .is-product .ensures) (c .if1 .taken) (ok .room ∙ ap (λ (m : ℕ). m * c .before .before .before .before .before .args .b) (sym (c .before .before .size .ensures))))
+returns c =
+    let b = c .before .before .before .before .before .args .b in
+    put-idle _ _ _ _ (λ ok. told-other _ _ _ (c .before .is-product .ensures) (c .if1 .taken) (ok .room ∙ ap (λ (m : ℕ). m * b) (sym (c .before .before .size .ensures))))
 
 has-blocks-requires : tie.Need-has-blocks-requires Inv-loop μ-loop
 has-blocks-requires c κs = search needs
 
 -- fresh has one block for each node
-whole : (c : tie.Else1 Inv-loop μ-loop) → length (now (c .before .before .before .before .before .args .fresh)) ≡ size (c .before .before .before .before .before .args .set .0) * c .before .before .before .before .before .args .b
+whole : (c : tie.Else1 Inv-loop μ-loop)
+    → length (now (c .before .before .before .before .before .args .fresh)) ≡ size (c .before .before .before .before .before .args .set .0) * c .before .before .before .before .before .args .b
 whole c = told-equal _ _ _ (c .before .is-product .ensures) (c .if1 .left) ∙ ap (λ (m : ℕ). m * c .before .before .before .before .before .args .b) (c .before .before .size .ensures)
 
 returns-2 : tie.Need-returns-2 Inv-loop μ-loop
@@ -67,7 +70,8 @@ fits c =
     record { inside = e .before .has-blocks .ensures .yes-has (not-false _ (e .if2 .left)); room = whole (e .before .before) }
 
 head : (c : tie.At-loop Inv-loop μ-loop)
-    → Written (start (c .before) .args .b) (start (c .before) .args .set .0) (cell (start (c .before) .args .b) (now (start (c .before) .args .fresh))) (c .loop .i) (now (start (c .before) .args .codeword)) (c .loop .codeword)
+    → Written (start (c .before) .args .b) (start (c .before) .args .set .0) (cell (start (c .before) .args .b) (now (start (c .before) .args .fresh))) (c .loop .i)
+    (now (start (c .before) .args .codeword)) (c .loop .codeword)
 head c = c .loop .inv _ (listed (c .before)) (fits (c .before))
 
 array-read-wide : tie.Need-array-read-wide Inv-loop μ-loop

@@ -42,7 +42,8 @@ returns-2 c =
     let bytes = e .before .before .before .before .shared-slice-known .given in
     let bytes′ = e .before .before .before .shared-slice-known2 .given in
     served _ (sym (e .before .reconfigure-gate .ensures) ∙ e .if1 .left)
-    (reconfigured (s .a) (s .shape) (s .from .0) (s .to .0) (word-from (start e)) (now (s .codeword)) (now (s .message)) (now (s .out)) _ (accepted e) (λ i. omega (arith, bytes i)) (λ i. omega (arith, bytes′ i))
+    (reconfigured (s .a) (s .shape) (s .from .0) (s .to .0) (word-from (start e)) (now (s .codeword)) (now (s .message)) (now (s .out)) _ (accepted e)
+    (λ i. omega (arith, bytes i)) (λ i. omega (arith, bytes′ i))
     (c .before .before .reconfigure-blocks .ensures))
 
 pub reconfigure-spec : {M : Type 1} → statement M

@@ -1,4 +1,4 @@
--- Each of the two rooms is enough for the blocks that it is made for: the larger has place for 32 of 1,024 bytes. Assumes nothing.
+-- Each of the three rooms is enough for the blocks that it is made for: the largest has place for 32 of 1,024 bytes. Assumes nothing.
 use mathlib.Core.Path.{_≡_, subst}
 use Prim.Native.Nat.{ℕ, _*_, _≤_}
 use native.Mathlib.Omega.{arith}
@@ -19,21 +19,28 @@ size-requires c κs = search needs
 abbrev start : tie.After-size → tie.Start
 start c = c .before .before .before .before .before
 
+few : (c : tie.After-size) → c .size .result ≤ 32
+few c = omega (arith, c .size .ensures, size-most (c .before .outside .result .0) (omega arith))
+
 -- as many blocks as the new slack has parts
 count-is : (c : tie.After-size) → c .size .result ≡ slackParts (reshaped (start c .args .a) (start c .args .shape))
 count-is c =
     let s = start c in
-    slack-count (s .args .a) (s .args .shape) (s .args .from .0) (s .args .to .0) (c .before .outside .result .0) _ _ _ _ (s .pre) (c .before .outside .ensures) (omega arith) (c .size .ensures)
+    slack-count (s .args .a) (s .args .shape) (s .args .from .0) (s .args .to .0) (c .before .outside .result .0) _ _ _ _ (s .pre) (c .before .outside .ensures)
+    (omega arith) (c .size .ensures)
 
-mul-if1 : tie.Need-mul-if1
-mul-if1 c =
+mul-size : tie.Need-mul-size
+mul-size c =
     let z = c .before in
     let s = start z in
-    omega (arith, blocks-most (z .size .result) (s .args .a .b) (omega (arith, z .size .ensures, size-most (z .before .outside .result .0) (omega arith))) (s .pre .b-high))
+    omega (arith, blocks-most (z .size .result) (s .args .a .b) (few z) (s .pre .b-high))
 
-reconfigure-1024-requires : tie.Need-reconfigure-1024-requires
-reconfigure-1024-requires c κs =
-    let e = c .before in
+slice-aggregate-reconfigure-within : tie.Need-slice-aggregate-reconfigure-within
+slice-aggregate-reconfigure-within c = search needs
+
+reconfigure-within-requires : tie.Need-reconfigure-within-requires
+reconfigure-within-requires c κs =
+    let e = c .before .before in
     let z = e .before .before in
     let s = start z in
     (s .pre, subst (λ (m : ℕ). m * s .args .a .b ≤ 1024) (count-is z) (omega (arith, e .if1 .taken)))
@@ -44,15 +51,15 @@ same-length c = search needs
 returns : tie.Need-returns
 returns c = search needs
 
-slice-aggregate-reconfigure-within : tie.Need-slice-aggregate-reconfigure-within
-slice-aggregate-reconfigure-within c = search needs
+slice-aggregate-reconfigure-within-2 : tie.Need-slice-aggregate-reconfigure-within-2
+slice-aggregate-reconfigure-within-2 c = search needs
 
-reconfigure-within-requires : tie.Need-reconfigure-within-requires
-reconfigure-within-requires c κs =
-    let z = c .before .before .before .before in
+reconfigure-within-requires-2 : tie.Need-reconfigure-within-requires-2
+reconfigure-within-requires-2 c κs =
+    let e = c .before .before in
+    let z = e .before .before .before in
     let s = start z in
-    let few : z .size .result ≤ 32 = omega (arith, z .size .ensures, size-most (z .before .outside .result .0) (omega arith)) in
-    (s .pre, subst (λ (m : ℕ). m * s .args .a .b ≤ 32768) (count-is z) (blocks-most _ (s .args .a .b) few (s .pre .b-high)))
+    (s .pre, subst (λ (m : ℕ). m * s .args .a .b ≤ 8192) (count-is z) (omega (arith, e .if2 .taken)))
 
 same-length-2 : tie.Need-same-length-2
 same-length-2 c = search needs
@@ -60,17 +67,37 @@ same-length-2 c = search needs
 returns-2 : tie.Need-returns-2
 returns-2 c = search needs
 
+slice-aggregate-reconfigure-within-3 : tie.Need-slice-aggregate-reconfigure-within-3
+slice-aggregate-reconfigure-within-3 c = search needs
+
+reconfigure-within-requires-3 : tie.Need-reconfigure-within-requires-3
+reconfigure-within-requires-3 c κs =
+    let z = c .before .before .before .before .before in
+    let s = start z in
+    (s .pre, subst (λ (m : ℕ). m * s .args .a .b ≤ 32768) (count-is z) (blocks-most _ (s .args .a .b) (few z) (s .pre .b-high)))
+
+same-length-3 : tie.Need-same-length-3
+same-length-3 c = search needs
+
+returns-3 : tie.Need-returns-3
+returns-3 c = search needs
+
 pub reconfigure-over-128-spec : {M : Type 1} → statement M
 reconfigure-over-128-spec =
     tie.close
     (tie.spec
     outside-requires
     size-requires
-    mul-if1
-    reconfigure-1024-requires
-    same-length
-    returns
+    mul-size
     slice-aggregate-reconfigure-within
     reconfigure-within-requires
+    same-length
+    returns
+    slice-aggregate-reconfigure-within-2
+    reconfigure-within-requires-2
     same-length-2
-    returns-2)
+    returns-2
+    slice-aggregate-reconfigure-within-3
+    reconfigure-within-requires-3
+    same-length-3
+    returns-3)

@@ -38,7 +38,8 @@ module _ (c : tie.After-size) where
   fits : c .size .result * start .args .a .b ≤ length (now (start .args .z))
   fits =
       subst⁻¹ (λ (m : ℕ). m * start .args .a .b ≤ length (now (start .args .z)))
-      (slack-count (start .args .a) (start .args .shape) (start .args .from .0) (start .args .to .0) _ _ _ _ _ (start .pre .0) (c .before .before .before .outside .ensures) free-word (c .size .ensures))
+      (slack-count (start .args .a) (start .args .shape) (start .args .from .0) (start .args .to .0) _ _ _ _ _ (start .pre .0)
+      (c .before .before .before .outside .ensures) free-word (c .size .ensures))
       (start .pre .1)
 
 mul-old : tie.Need-mul-old
@@ -89,7 +90,8 @@ returns c =
     (z .before .before .before .outside .ensures) (z .before .before .outside2 .ensures) (z .before .outside3 .ensures) _ (r .recompute .last .1 .1 .1 .1 .0) (mid .last .0) _
     (length-take-le _ _ (fits z) ∙ ap (λ (m : ℕ). m * s .args .a .b) (z .size .ensures)) (r .recompute .ensures) (mid .ensures)
     (subst
-    (λ (l : List ℕ). CompletePost (s .args .a .b) (s .args .shape .k) (z .before .before .before .outside .result .0) made (now (s .args .message)) l (mid .last .0) (c .before .before .complete .last .1 .1 .1 .1 .1 .1 .0))
+    (λ (l : List ℕ). CompletePost (s .args .a .b) (s .args .shape .k) (z .before .before .before .outside .result .0) made (now (s .args .message)) l (mid .last .0)
+    (c .before .before .complete .last .1 .1 .1 .1 .1 .1 .0))
     (buffer-front _ _ _ (back r)) (c .before .before .complete .ensures))
 
 pub reconfigure-within-spec : {M : Type 1} → statement M

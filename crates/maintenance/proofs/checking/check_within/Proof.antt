@@ -78,7 +78,8 @@ returns c =
     let s = start z in
     agrees (s .args .a) (now (s .args .codeword)) (s .pre .0) _ _ _ (word z) (exact z) (z .before .before .outside .ensures) (z .before .outside2 .ensures) _ _
     (length-take-le _ _ (fits z) ∙ ap (λ (m : ℕ). m * s .args .a .b) (z .size .ensures)) (r .recompute .ensures)
-    (subst (λ (l : List ℕ). ComparePost (s .args .a .b) (z .before .outside2 .result .0) (now (s .args .codeword)) l 0) (buffer-front _ _ _ (back r)) (subst (ComparePost (s .args .a .b) (z .before .outside2 .result .0) (now (s .args .codeword)) _) (c .if1 .taken) (c .before .before .first-other .ensures)))
+    (subst (λ (l : List ℕ). ComparePost (s .args .a .b) (z .before .outside2 .result .0) (now (s .args .codeword)) l 0) (buffer-front _ _ _ (back r))
+    (subst (ComparePost (s .args .a .b) (z .before .outside2 .result .0) (now (s .args .codeword)) _) (c .if1 .taken) (c .before .before .first-other .ensures)))
 
 same-length-2 : tie.Need-same-length-2
 same-length-2 c = search needs
@@ -90,7 +91,8 @@ returns-2 c =
     let s = start z in
     differs (s .args .a) (now (s .args .codeword)) (s .pre .0) _ _ _ (word z) (exact z) (z .before .before .outside .ensures) (z .before .outside2 .ensures) _ _
     (length-take-le _ _ (fits z) ∙ ap (λ (m : ℕ). m * s .args .a .b) (z .size .ensures)) (r .recompute .ensures) _ (c .if1 .left)
-    (subst (λ (l : List ℕ). ComparePost (s .args .a .b) (z .before .outside2 .result .0) (now (s .args .codeword)) l (c .before .before .first-other .result .0)) (buffer-front _ _ _ (back r)) (c .before .before .first-other .ensures))
+    (subst (λ (l : List ℕ). ComparePost (s .args .a .b) (z .before .outside2 .result .0) (now (s .args .codeword)) l (c .before .before .first-other .result .0))
+    (buffer-front _ _ _ (back r)) (c .before .before .first-other .ensures))
 
 pub check-within-spec : {M : Type 1} → statement M
 check-within-spec =

@@ -35,7 +35,8 @@ returns-2 c =
     let s = e .before .before .before in
     let bytes = e .before .before .slice-known .given in
     served _ (sym (e .before .repair-gate .ensures) ∙ e .if1 .left)
-    (repaired (s .args .a) (s .args .from .0) (s .args .lost .0) (omega arith) (omega arith) (now (s .args .codeword)) _ (accepted e) (λ i. omega (arith, bytes i)) (c .before .before .repair-blocks .ensures))
+    (repaired (s .args .a) (s .args .from .0) (s .args .lost .0) (omega arith) (omega arith) (now (s .args .codeword)) _ (accepted e) (λ i. omega (arith, bytes i))
+    (c .before .before .repair-blocks .ensures))
 
 pub repair-spec : {M : Type 1} → statement M
 repair-spec =
