@@ -25,9 +25,10 @@ use Rattle.kernels.specs.Tiling.{number, Grouped, columns, tileAt, Raise
 use Rattle.kernels.proofs.Digits.{number-below, number-front, columns-most}
 use Rattle.kernels.proofs.Stretches.{stretch, length-stretch, stretch-at}
 
--- w bytes from `at` on of a block that src has
-pub stretch-ends : (b at w j src : ℕ) (places : List ℕ) → at + w ≤ b → j < length places → Inside b places src → getD places j 0 * b + at + w ≤ src
-stretch-ends b at w j src places h hj f = omega (arith, f j hj, suc-mul (getD places j 0) b)
+-- w bytes from `at` on of the block that a place names, k as it was read, end within a slice as long as src
+pub stretch-ends : (b at w : ℕ) {j k src long : ℕ} (places : List ℕ) → k ≡ getD places j 0 → long ≡ src → at + w ≤ b → j < length places → Inside b places src
+    → k * b + at + w ≤ long
+stretch-ends b at w {j} places e l h hj f = omega (arith, ap (λ (x : ℕ). x * b) e, f j hj, suc-mul (getD places j 0) b)
 
 -- and their bytes
 pub stretch-tile : (b at w : ℕ) (src places : List ℕ) (j p : ℕ) → p < w → getD (stretch (getD places j 0 * b + at) w src) p 0 ≡ tileAt b at src places j p

@@ -1,5 +1,5 @@
 -- After j turns the first j blocks are added. Assumes nothing.
-use mathlib.Core.Path.{ap, _∙_, subst⁻¹}
+use mathlib.Core.Path.{refl, ap, _∙_}
 use Prim.Native.Nat.{ℕ, _+_, _-_, _*_, _≤_}
 use denote.Ref.{now}
 use native.Mathlib.Omega.{arith}
@@ -33,8 +33,7 @@ inside : (c : tie.After-wide Inv-loop μ-loop)
 inside c =
     let s = c .before .before .before .before .before .before .before .before in
     let b = length (now (s .args .dst)) in
-    subst⁻¹ (λ (k : ℕ). k * b + b ≤ length (now (s .args .src))) (c .wide .ensures)
-    (omega (arith, stretch-ends b 0 b (c .before .before .before .loop .j) _ (now (s .args .places)) (omega arith) (omega arith) (s .pre .1)))
+    omega (arith, stretch-ends b 0 b (now (s .args .places)) (c .wide .ensures) refl (omega arith) (omega arith) (s .pre .1))
 
 mul-start : tie.Need-mul-start Inv-loop μ-loop
 mul-start c = omega (arith, inside c)

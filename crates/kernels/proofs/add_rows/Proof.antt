@@ -1,5 +1,4 @@
 -- After i turns the first i rows of the product are added to their targets. Assumes nothing.
-use mathlib.Core.Path.{subst⁻¹}
 use Prim.Native.Nat.{ℕ, _+_, _-_, _*_, _≤_}
 use denote.Ref.{now}
 use native.Mathlib.Omega.{arith}
@@ -36,10 +35,8 @@ module _ (c : tie.After-wide Inv-loop μ-loop) where
 
   out-end : let s = start .args in c .wide .result * s .b + s .b ≤ length (c .before .before .before .loop .out)
   out-end =
-      let l = c .before .before .before .loop in
       let b = start .args .b in
-      subst⁻¹ (λ (k : ℕ). k * b + b ≤ length (l .out)) (c .wide .ensures)
-      (omega (arith, stretch-ends b 0 b (l .i) _ (now (start .args .targets)) (omega arith) (omega arith) (start .pre .target), l .inv .1 .same))
+      omega (arith, stretch-ends b 0 b (now (start .args .targets)) (c .wide .ensures) (c .before .before .before .loop .inv .1 .same) (omega arith) (omega arith) (start .pre .target))
 
   row-end : let s = start .args in c .before .before .before .loop .i * s .stride + length (now (s .places)) ≤ length (now (s .coeffs))
   row-end = start .pre .row (c .before .before .before .loop .i) (omega arith)
