@@ -6,7 +6,7 @@ use Prim.Native.Nat.{ℕ}
 use Rattle.ledger.specs.Ledger.{Machine, encode, update, repair, reconfigure, decode, delta, check, view, Event, call, damage, stepped, Undamaged}
 use Rattle.ledger.specs.Ledger as ledger
 use Rattle.season_file.specs.File.{bytesOf, openingOf, itemAt}
-use Rattle.season_file.specs.Answers.{answerOf}
+use Rattle.season_answers.specs.Answers.{answerOf}
 use Rattle.season_file.specs.declared.Header.{Header}
 use Rattle.season_file.specs.declared.Found.{Found}
 use Rattle.season_file.specs.declared.Item.the-variants as item
