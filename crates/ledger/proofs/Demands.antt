@@ -1,5 +1,6 @@
--- The customer's three demands on one page. Demands 1 and 2 are the contracts of the calls (crates access, updates, maintenance and matrix, src/): each is proved to
--- meet the post-condition named here, for all arguments (view_status answers viewGate). This page says what such a post-condition settles, and states demand 3. Assumes nothing.
+-- The customer's three demands on one page. Demands 1 and 2 are the contracts of the calls (src/ of the crates views, access, updates, maintenance, reconfiguration
+-- and matrix): each is proved to meet the post-condition named here, for all arguments (view_status answers viewGate). This page says what such a post-condition
+-- settles, and states demand 3. Assumes nothing.
 use mathlib.Core.Path.{_≡_, refl, sym, _∙_}
 use mathlib.Core.Bool.{true}
 use mathlib.Core.List.{List, [], _∷_}
@@ -12,6 +13,7 @@ use Rattle.field.specs.Field.{Bytes}
 use Rattle.matrix.specs.Invert.{InvertPost, sideAsked, lengthsAsked, inverseAsked, number as invertNumber}
 use Rattle.matrix.specs.declared.Inversion.{Inversion}
 use Rattle.matrix.proofs.Laws.{invert-once}
+use Rattle.matrix.proofs.Existence.{invert-met}
 use Rattle.params.specs.Nodes.{has}
 use Rattle.params.specs.declared.Params.{Params}
 use Rattle.params.specs.declared.Shape.{Shape}
@@ -70,7 +72,7 @@ demand-1 =
 
 -- 2. "Every block, view, reading, difference, check, .. rebuilt block and rearranged record is what .. document 01 fixes": a call's answer and every byte of its
 -- buffer are settled by its post-condition. Some answer and list of bytes meet it, where the slices lent hold bytes (as by their type they do), and no other
--- does. (Of the inverse it is said here that no two do.)
+-- does; but which dependent column an inverse names is left free.
 abbrev pub Settled : Type 0 → (ℕ → List ℕ → Type 0) → Type 0
 Settled BytesLent P = (BytesLent → Met P) × Once P
 
@@ -86,8 +88,9 @@ pub record Demand2 : Type 0 where
       × ((answer answer′ : Verdict) → CheckPost a codeword answer → CheckPost a codeword answer′ → answer ≡ answer′)
   pub view : (a : Params) (codeword : List ℕ) (node : ℕ) → ((part : List ℕ) × ViewPost a codeword node part)
       × ((part part′ : List ℕ) → ViewPost a codeword node part → ViewPost a codeword node part′ → part ≡ part′)
-  pub inverse : (s : ℕ) (m old : List ℕ) (answer answer′ : Inversion) (new new′ : List ℕ) → InvertPost s m old answer new
-      → InvertPost s m old answer′ new′ → (invertNumber answer ≡ invertNumber answer′) × (new ≡ new′)
+  pub inverse : (s : ℕ) (m old : List ℕ) → (Bytes m → (answer : Inversion) × (new : List ℕ) × InvertPost s m old answer new)
+      × ((answer answer′ : Inversion) (new new′ : List ℕ) → InvertPost s m old answer new → InvertPost s m old answer′ new′
+      → (invertNumber answer ≡ invertNumber answer′) × (new ≡ new′))
 
 pub demand-2 : Demand2
 demand-2 =
@@ -101,7 +104,7 @@ demand-2 =
           (λ h. reconfigure-met a t codeword from to message old (h .0) (h .1), reconfigure-once a t codeword from to message old);
       check = λ a codeword. (check-met a codeword, check-once a codeword);
       view = λ a codeword node. (view-met a codeword node, view-once a codeword node);
-      inverse = invert-once;
+      inverse = λ s m old. (invert-met s m old, invert-once s m old);
     }
 
 -- From message to blocks, and from any r blocks back: an accepted reading through nodes that hold their blocks of an accepted set-up gives its message, whatever
