@@ -19,9 +19,9 @@ use Rattle.field.proofs.Multiplication.{mul-byte, mul-comm, mul-assoc, mul-zero
 use Rattle.field.proofs.Exponents.{pow-byte, pow-add, pow-pow, pow-mod, mul-cancel, inverse-power, quotient-unique}
 use Rattle.field.proofs.FiniteSum.{sum-ext}
 use Rattle.interpolation.specs.Polynomial.{Points}
-use Rattle.interpolation.specs.Lagrange.{product, factor, apart, gain}
+use Rattle.interpolation.specs.Lagrange.{product, factor, apart, basisValue}
 use Rattle.interpolation.proofs.Lagrange.{apart-byte, apart-elsewhere, apart-nonzero, apart-whole, lagrange}
-use Rattle.coefficients.specs.Working.{unit, same, unitRow, gainRow, gainRows, Missing, Weighed, Weighable, Carries, remaining}
+use Rattle.coefficients.specs.Working.{unit, same, unitRow, basisValues, basisValueRows, Missing, Weighed, Weighable, Carries, remaining}
 use Rattle.coefficients.proofs.Rows.{tabulated}
 
 -- ---- products by the sums of exponents
@@ -88,8 +88,8 @@ module _ (e : ℕ) (at : List ℕ) (target : ℕ) (can : Weighable e at) (byte :
   pub gain-found : (weight gap parts back whole g : ℕ) → pow 2 weight ≡ apart e at (getD at o 0) (getD at o 0)
       → pow 2 gap ≡ add target (getD at o 0) → pow 2 parts ≡ pow 2 (weight + gap) → mul (pow 2 parts) (pow 2 back) ≡ 1
       → pow 2 whole ≡ apart e at target target → pow 2 g ≡ pow 2 (whole + back)
-      → pow 2 g ≡ gain e at (getD at o 0) target
-  unfolding gain
+      → pow 2 g ≡ basisValue e at (getD at o 0) target
+  unfolding basisValue
   gain-found weight gap parts back whole g hw hg hp hb hz h =
       quotient-unique W (pow 2 g) N (apart-byte e at x x)
       (apart-nonzero e at x (can .tell .bytes) (can .tell .bytes o) (can .tell .nonzero o ho)) (pow-byte 2 g)
@@ -120,8 +120,8 @@ pub same-other : (x y : ℕ) → (x ≡ y → ⊥) → same x y ≡ 0
 unfolding same unit
 same-other x y n = ap unit (ne-eqb x y n)
 
-pub unit-gains : (e : ℕ) (at : List ℕ) (target i : ℕ) → Weighable e at → i < length at → getD at i 0 ≡ target → unitRow at target ≡ gainRow e at target
-unfolding unitRow gainRow gain
+pub unit-gains : (e : ℕ) (at : List ℕ) (target i : ℕ) → Weighable e at → i < length at → getD at i 0 ≡ target → unitRow at target ≡ basisValues e at target
+unfolding unitRow basisValues basisValue
 unit-gains e at target i can hi here =
     tabulate-ext (length at) _ _
     (λ o ho.
@@ -141,14 +141,14 @@ unit-gains e at target i can hi here =
 
 -- ---- rows
 
-pub row-gains : (e : ℕ) (at : List ℕ) (target : ℕ) (new : List ℕ) → new ≡ gainRow e at target
-    → (length new ≡ length at) × ((o : ℕ) → o < length at → getD new o 0 ≡ gain e at (getD at o 0) target)
-unfolding gainRow
+pub row-gains : (e : ℕ) (at : List ℕ) (target : ℕ) (new : List ℕ) → new ≡ basisValues e at target
+    → (length new ≡ length at) × ((o : ℕ) → o < length at → getD new o 0 ≡ basisValue e at (getD at o 0) target)
+unfolding basisValues
 row-gains e at target new h = tabulated (length at) _ new h
 
 -- the rows of gains take values to values
-pub carries : (e : ℕ) (at targets gains : List ℕ) → Points at → gains ≡ gainRows e at targets → Carries e at targets gains
-unfolding gainRows
+pub carries : (e : ℕ) (at targets gains : List ℕ) → Points at → gains ≡ basisValueRows e at targets → Carries e at targets gains
+unfolding basisValueRows
 carries e at targets gains points h =
     record {
       takes = λ v hv t ht.

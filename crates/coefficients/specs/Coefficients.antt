@@ -41,7 +41,7 @@ pub record ReadsPost (k : ℕ) (points old new : List ℕ) : Type 0 where
 -- ---- from leading coefficients and values to other values
 
 -- A polynomial with e leading coefficients x, and as many others as `at` has points, is settled by x and by its values at these points. The rows take them to
--- its values at the targets: the leading ones by `leading`, the values by `gains`.
+-- its values at the targets: the leading ones by `leading`, the values by `gains` (which are Lagrange basis values).
 pub record Extends (e : ℕ) (at targets leading gains : List ℕ) : Type 0 where
   pub takes : (x v : ℕ → ℕ) → ((j : ℕ) → IsByte (x j)) → ((j : ℕ) → IsByte (v j)) → (t : ℕ) → t < length targets
       → evaluate e (length at) x v (getD targets t 0)

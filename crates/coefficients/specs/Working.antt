@@ -9,7 +9,7 @@ use Rattle.base.specs.Seq.{tabulate, cell, blocks}
 use Rattle.field.specs.Field.{IsByte, add, mul, pow}
 use Rattle.field.specs.FiniteSum.{sum}
 use Rattle.interpolation.specs.Polynomial.{Points}
-use Rattle.interpolation.specs.Lagrange.{coefs, apart, gain}
+use Rattle.interpolation.specs.Lagrange.{coefs, apart, basisValue}
 
 -- c, c^2, .., c^m
 unfoldable pub powersOf : ℕ → ℕ → List ℕ
@@ -76,15 +76,15 @@ pub record Weighable (e : ℕ) (at : List ℕ) : Type 0 where
   pub most : length at ≤ 32
   pub tell : Points at
 
--- for each of the first n points of `at` the exponent of what its gains are divided by
+-- for each of the first n points of `at` the exponent of the inverse of its barycentric weight
 pub record Weighed (e : ℕ) (at : List ℕ) (n : ℕ) (weights : List ℕ) : Type 0 where
   pub room : length at ≤ length weights
   pub small : (o : ℕ) → o < n → getD weights o 0 < 255
   pub power : (o : ℕ) → o < n → pow 2 (getD weights o 0) ≡ apart e at (getD at o 0) (getD at o 0)
 
--- what the value at each point of `at` counts at the target
-unfoldable pub gainRow : ℕ → List ℕ → ℕ → List ℕ
-gainRow e at target = tabulate (length at) (λ o. gain e at (getD at o 0) target)
+-- what the value at each point of `at` counts at the target: the Lagrange basis values there
+unfoldable pub basisValues : ℕ → List ℕ → ℕ → List ℕ
+basisValues e at target = tabulate (length at) (λ o. basisValue e at (getD at o 0) target)
 
 -- what such a row asks, with the weights found before
 pub record Findable (e : ℕ) (at weights : List ℕ) (target : ℕ) (gains : List ℕ) : Type 0 where
@@ -94,8 +94,8 @@ pub record Findable (e : ℕ) (at weights : List ℕ) (target : ℕ) (gains : Li
   pub room : length gains ≡ length at
 
 -- a row for each target
-unfoldable pub gainRows : ℕ → List ℕ → List ℕ → List ℕ
-gainRows e at targets = blocks (length at) (length targets) (λ t o. gain e at (getD at o 0) (getD targets t 0))
+unfoldable pub basisValueRows : ℕ → List ℕ → List ℕ → List ℕ
+basisValueRows e at targets = blocks (length at) (length targets) (λ t o. basisValue e at (getD at o 0) (getD targets t 0))
 
 -- 01 for yes, 00 for no
 unfoldable pub unit : Bool → ℕ

@@ -14,7 +14,7 @@ ghost use lib.ListN.{length};
 ghost use Rattle.field.specs.Field.{LogTable, PowerTable};
 ghost use Rattle.interpolation.specs.Polynomial.{Points};
 ghost use Rattle.coefficients.specs.Coefficients.{Extends, Roomy};
-ghost use Rattle.coefficients.specs.Working.{same, unitRow, gainRow, gainRows, Missing, Weighed, Weighable, Findable, Carries, Carriable, withPowers, withShare, Shared, Sharable};
+ghost use Rattle.coefficients.specs.Working.{same, unitRow, basisValues, basisValueRows, Missing, Weighed, Weighable, Findable, Carries, Carriable, withPowers, withShare, Shared, Sharable};
 
 // leading and gains := the rows that take leading coefficients, and values at the points of `at`, to values at the targets. The gains take whole values to the
 // targets, with what the leading coefficients give in them; adding that share to leading takes it off.
@@ -37,8 +37,8 @@ pub(crate) fn complete(
     add_share(logs, exps, targets.len(), e, at, gains, leading);
 }
 
-// gains := the coefficients that take what the other coefficients give at the points of `at` to what they give at the targets: at target t, for the point c,
-// (t/c)^(e+1) times the product of all (t - d)/(c - d), for the other points d.
+// gains := the coefficients that take what the other coefficients give at the points of `at` to what they give at the targets. These are Lagrange basis values: at
+// target t, for the point c, (t/c)^(e+1) times the product of all (t - d)/(c - d), for the other points d.
 fn gain_rows(logs: &[u8], exps: &[u8], e: usize, at: &[u8], targets: &[u8], gains: &mut [u8])
     requires { ⌜ LogTable (now logs) ⌝ }
     requires { ⌜ PowerTable (now exps) ⌝ }
@@ -50,7 +50,7 @@ fn gain_rows(logs: &[u8], exps: &[u8], e: usize, at: &[u8], targets: &[u8], gain
     fill_gains(logs, exps, e, at, &weights, targets, gains);
 }
 
-// weights := for each point the exponent of what its gains are divided by.
+// weights := for each point the exponent of the inverse of its barycentric weight.
 fn weigh(logs: &[u8], e: usize, at: &[u8], weights: &mut [u8])
     requires { ⌜ LogTable (now logs) ⌝ }
     requires { ⌜ Weighable e (now at) ⌝ }
@@ -79,7 +79,7 @@ fn fill_gains(
     requires { ⌜ PowerTable (now exps) ⌝ }
     requires { ⌜ Carriable e (now at) (now targets) (now gains) ⌝ }
     requires { ⌜ Weighed e (now at) (length (now at)) (now weights) ⌝ }
-    ensures { λ _. ⌜ now (gains .exit) ≡ gainRows e (now (at .entry)) (now (targets .entry)) ⌝ }
+    ensures { λ _. ⌜ now (gains .exit) ≡ basisValueRows e (now (at .entry)) (now (targets .entry)) ⌝ }
 {
     let m = at.len();
     let mut t = 0;
@@ -112,7 +112,7 @@ fn fill_gain(
     requires { ⌜ LogTable (now logs) ⌝ }
     requires { ⌜ PowerTable (now exps) ⌝ }
     requires { ⌜ Findable e (now at) (now weights) target (now gains) ⌝ }
-    ensures { λ _. ⌜ now (gains .exit) ≡ gainRow e (now (at .entry)) target ⌝ }
+    ensures { λ _. ⌜ now (gains .exit) ≡ basisValues e (now (at .entry)) target ⌝ }
 {
     if lists(at, target) {
         fill_unit(at, target, gains);
@@ -144,7 +144,7 @@ fn equal(x: u8, y: u8) -> u8
     0
 }
 
-// A target that is none of the points: the product of all t - d, without the point's own factor, divided by the point's weight.
+// A target that is none of the points: the product of all t - d, without the point's own factor, times the point's barycentric weight.
 fn fill_apart(
     logs: &[u8],
     exps: &[u8],
@@ -158,7 +158,7 @@ fn fill_apart(
     requires { ⌜ PowerTable (now exps) ⌝ }
     requires { ⌜ Findable e (now at) (now weights) target (now gains) ⌝ }
     requires { ⌜ Missing (length (now at)) (now at) target ⌝ }
-    ensures { λ _. ⌜ now (gains .exit) ≡ gainRow e (now (at .entry)) target ⌝ }
+    ensures { λ _. ⌜ now (gains .exit) ≡ basisValues e (now (at .entry)) target ⌝ }
 {
     let whole = apart_exponent(logs, e, at, target);
     let m = at.len();

@@ -19,7 +19,7 @@ use Rattle.field.proofs.Multiplication.{mul-byte, mul-comm, mul-assoc, mul-add-
 use Rattle.field.proofs.Exponents.{pow-byte, pow-nonzero, mul-nonzero, inverse-power}
 use Rattle.field.proofs.FiniteSum.{sum-ext, sum-byte, sum-zeros, sum-add, mul-sum, sum-mul, sum-exchange, sum-one}
 use Rattle.interpolation.specs.Polynomial.{Points}
-use Rattle.interpolation.specs.Lagrange.{value, times, product, unless, factor, widen, coefs, apart, gain}
+use Rattle.interpolation.specs.Lagrange.{value, times, product, unless, factor, widen, coefs, apart, basisValue}
 use Rattle.interpolation.proofs.Horner.{value-byte, sum-value, length-times, times-bytes, value-times, times-first, times-next}
 use Rattle.interpolation.proofs.Kernel.{kernel}
 
@@ -316,8 +316,8 @@ module _ (e : ℕ) (ps : List ℕ) (h : Points ps) (v : ℕ → ℕ) (hv : (j : 
       (getD (coefs ps (getD ps k 0) (length ps)) j 0))
   coefficients j hj = add-zero-eq _ _ (rest-zero j hj)
 
-  pub lagrange : (z : ℕ) → whole z ≡ sum (length ps) (λ k. mul (gain e ps (getD ps k 0) z) (whole (getD ps k 0)))
-  unfolding gain
+  pub lagrange : (z : ℕ) → whole z ≡ sum (length ps) (λ k. mul (basisValue e ps (getD ps k 0) z) (whole (getD ps k 0)))
+  unfolding basisValue
   lagrange z =
       add-zero-eq _ _
       (sym (rest-sum z) ∙ sum-zeros (length ps) _ (λ j hj. ap (λ (a : ℕ). mul a (pow z (e + suc j))) (rest-zero j hj) ∙ mul-zero-left _))

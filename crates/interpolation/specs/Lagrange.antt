@@ -41,10 +41,10 @@ unfoldable pub coefs : List ℕ → ℕ → ℕ → List ℕ
 coefs ps x zero = 1 ∷ []
 coefs ps x (suc n) = widen (eqb (getD ps n 0) x) (getD ps n 0) (coefs ps x n)
 
--- z^(e+1) times the product of all z - d, for the points d of ps other than x: 00 at these points
+-- z^(e+1) times the product of all z - d, for the points d of ps other than x: 00 at these points. At x it is the inverse of x's barycentric weight.
 unfoldable pub apart : ℕ → List ℕ → ℕ → ℕ → ℕ
 apart e ps x z = mul (pow z (suc e)) (product (length ps) (λ j. factor x z (getD ps j 0)))
 
--- the basis polynomial of the point x, at z: the same, divided by what it is at x, so that it is 01 there
-unfoldable pub gain : ℕ → List ℕ → ℕ → ℕ → ℕ
-gain e ps x z = mul (apart e ps x z) (pow (apart e ps x x) 254)
+-- the Lagrange basis value of the point x at z: the same times the barycentric weight of x, so that it is 01 at x
+unfoldable pub basisValue : ℕ → List ℕ → ℕ → ℕ → ℕ
+basisValue e ps x z = mul (apart e ps x z) (pow (apart e ps x x) 254)

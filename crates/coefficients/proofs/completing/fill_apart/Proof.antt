@@ -10,14 +10,14 @@ use Rattle.base.specs.Parts.{Filled}
 use Rattle.base.proofs.Filled.{filled-none, filled-more, filled-all}
 use Rattle.field.specs.Field.{IsByte, add, pow}
 use Rattle.field.proofs.Exponents.{power-at}
-use Rattle.interpolation.specs.Lagrange.{gain}
-use Rattle.coefficients.specs.Working.{gainRow}
+use Rattle.interpolation.specs.Lagrange.{basisValue}
+use Rattle.coefficients.specs.Working.{basisValues}
 use Rattle.coefficients.proofs.Gains.{gap-nonzero, gain-found}
 use Rattle.coefficients.proofs.completing.fill_apart.Statement.{statement}
 use Rattle.coefficients.proofs.completing.fill_apart.Tie as tie
 
 abbrev Inv-loop : tie.InvT-loop
-Inv-loop logs exps e at weights target gains₀ whole m j₀ gains j = (j ≤ length at) × Filled (λ o. gain e at (getD at o 0) target) j gains₀ gains
+Inv-loop logs exps e at weights target gains₀ whole m j₀ gains j = (j ≤ length at) × Filled (λ o. basisValue e at (getD at o 0) target) j gains₀ gains
 
 abbrev μ-loop : tie.MeasureT-loop
 μ-loop logs exps e at weights target gains₀ whole m j₀ gains j = length at - j
@@ -106,11 +106,11 @@ same-length : tie.Need-same-length Inv-loop μ-loop
 same-length c = c .before .loop .inv .1 .same
 
 returns : tie.Need-returns Inv-loop μ-loop
-unfolding gainRow
+unfolding basisValues
 returns c =
     let s = c .before .before .before .before .before .before .before .before in
     filled-all _ (c .before .loop .j) _ _ (omega (arith, s .pre .1 .1 .0 .room)) (c .before .loop .inv .1)
-    ∙ ap (λ (n : ℕ). tabulate n (λ o. gain (s .args .e) (now (s .args .at)) (getD (now (s .args .at)) o 0) (s .args .target))) (s .pre .1 .1 .0 .room)
+    ∙ ap (λ (n : ℕ). tabulate n (λ o. basisValue (s .args .e) (now (s .args .at)) (getD (now (s .args .at)) o 0) (s .args .target))) (s .pre .1 .1 .0 .room)
 
 pub fill-apart-spec : {M : Type 1} → statement M
 fill-apart-spec =

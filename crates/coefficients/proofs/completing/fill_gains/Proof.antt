@@ -6,15 +6,15 @@ use denote.Ref.{now}
 use lib.ListN.{length, getD}
 use Rattle.base.specs.Parts.{Blocked}
 use Rattle.base.proofs.Parts.{blocked-none, blocked-more, row-ends, length-partOf}
-use Rattle.interpolation.specs.Lagrange.{gain}
-use Rattle.coefficients.specs.Working.{gainRows}
+use Rattle.interpolation.specs.Lagrange.{basisValue}
+use Rattle.coefficients.specs.Working.{basisValueRows}
 use Rattle.coefficients.proofs.Rows.{blocked-whole}
 use Rattle.coefficients.proofs.Gains.{row-gains}
 use Rattle.coefficients.proofs.completing.fill_gains.Statement.{statement}
 use Rattle.coefficients.proofs.completing.fill_gains.Tie as tie
 
 abbrev Inv-loop : tie.InvT-loop
-Inv-loop logs exps e at weights targets gains₀ m t₀ gains t = (t ≤ length targets) × Blocked (length at) (length targets) (λ i o. gain e at (getD at o 0) (getD targets i 0)) t gains₀ gains
+Inv-loop logs exps e at weights targets gains₀ m t₀ gains t = (t ≤ length targets) × Blocked (length at) (length targets) (λ i o. basisValue e at (getD at o 0) (getD targets i 0)) t gains₀ gains
 
 abbrev μ-loop : tie.MeasureT-loop
 μ-loop logs exps e at weights targets gains₀ m t₀ gains t = length targets - t
@@ -82,7 +82,7 @@ same-length : tie.Need-same-length Inv-loop μ-loop
 same-length c = c .before .loop .inv .1 .same
 
 returns : tie.Need-returns Inv-loop μ-loop
-unfolding gainRows
+unfolding basisValueRows
 returns c = blocked-whole _ _ _ _ _ _ (c .before .before .before .before .before .before .before .before .pre .1 .1 .0 .room) (omega arith) (c .before .loop .inv .1)
 
 pub fill-gains-spec : {M : Type 1} → statement M
