@@ -59,7 +59,7 @@ blocked-whole (suc b) n f t old new ho ht s = blocked-all (suc b) n f t old new 
 
 -- ---- what the call of rows of powers leaves
 
--- out has not just their length
+-- out has another length
 pub powers-kept : (points : List ℕ) (m : ℕ) (out : List ℕ) (fits : Bool) → fits ≡ eqb (length out) (length points * m) → not fits ≡ true
     → PowersPost points m out out
 powers-kept points m out fits r taken =

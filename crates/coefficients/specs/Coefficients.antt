@@ -14,7 +14,7 @@ use Rattle.interpolation.specs.Polynomial.{evaluate, Points}
 unfoldable pub powerRows : ℕ → List ℕ → List ℕ
 powerRows m points = blocks m (length points) (λ i j. pow (getD points i 0) (suc j))
 
--- new is these rows; where old has not just their length, nothing is written
+-- new is these rows; where old has another length, nothing is written
 pub record PowersPost (points : List ℕ) (m : ℕ) (old new : List ℕ) : Type 0 where
   pub written : length old ≡ length points * m → new ≡ powerRows m points
   pub kept : (length old ≡ length points * m → ⊥) → new ≡ old
@@ -26,7 +26,7 @@ pub record Reads (k : ℕ) (points rows : List ℕ) : Type 0 where
   pub takes : (l : ℕ) (x v : ℕ → ℕ) → k + l ≡ length points → ((j : ℕ) → IsByte (x j)) → ((j : ℕ) → IsByte (v j)) → (j : ℕ) → j < k
       → sum (length points) (λ o. mul (cell (length points) rows j o) (evaluate k l x v (getD points o 0))) ≡ x j
 
--- what such rows ask: no more leading coefficients than there are values, at most 32 points, different and none of them 00, and just the rows' length
+-- what such rows ask: no more leading coefficients than there are values, at most 32 points, different and none of them 00, and as many bytes as the rows have
 pub record Readable (k : ℕ) (points : List ℕ) (rows : ℕ) : Type 0 where
   pub few : k ≤ length points
   pub most : length points ≤ 32
@@ -48,7 +48,8 @@ pub record Extends (e : ℕ) (at targets leading gains : List ℕ) : Type 0 wher
       ≡ add (sum e (λ j. mul (cell e leading t j) (x j)))
       (sum (length at) (λ o. mul (cell (length at) gains t o) (evaluate e (length at) x v (getD at o 0))))
 
--- what such rows ask: at most 32 leading coefficients, points and targets, points that are different and none of them 00, no target 00, and just the rows' lengths
+-- what such rows ask: at most 32 leading coefficients, points and targets; points that are different and none of them 00; no target 00; and as many bytes as
+-- the rows have
 pub record Roomy (e : ℕ) (at targets : List ℕ) (leading gains : ℕ) : Type 0 where
   pub e-most : e ≤ 32
   pub most : length at ≤ 32

@@ -15,7 +15,7 @@ use listing::different;
 use listing::lists;
 ghost use Rattle.coefficients.specs.Coefficients.{PowersPost, ReadsPost, ExtendsPost};
 
-// out := a row for each point: its powers 1, .., m. Where out has not just the length of these rows, nothing is written.
+// out := a row for each point: its powers 1, .., m. Where out is longer or shorter than these rows, nothing is written.
 pub fn power_rows(points: &[u8], m: usize, out: &mut [u8])
     ensures { λ _. ⌜ PowersPost (now (points .entry)) m (now (out .entry)) (now (out .exit)) ⌝ }
 {
@@ -26,8 +26,8 @@ pub fn power_rows(points: &[u8], m: usize, out: &mut [u8])
 }
 
 // rows := the coefficients that take the values at the points to the k leading coefficients of a polynomial with as many coefficients as there are points:
-// column i has those of the basis polynomial of point i. Where k exceeds the number of points, these are more than 32, one of them is 00 or two are equal, or rows
-// has not just the length of these rows, nothing is written.
+// column i has those of the basis polynomial of point i. Nothing is written where k exceeds the number of points, where there are more than 32, where one is 00
+// or two are equal, and where rows is longer or shorter than k rows.
 pub fn reading_rows(k: usize, points: &[u8], rows: &mut [u8])
     ensures { λ _. ⌜ ReadsPost k (now (points .entry)) (now (rows .entry)) (now (rows .exit)) ⌝ }
 {
@@ -51,8 +51,8 @@ pub fn reading_rows(k: usize, points: &[u8], rows: &mut [u8])
 }
 
 // A polynomial with e leading coefficients, and as many others as `at` has points, is settled by the leading ones and its values at these points. leading and
-// gains become the coefficients that take them to its values at the targets. Where e, the number of points or that of targets exceeds 32, a point or a target is
-// 00, two points are equal, or leading or gains has not just the length of its rows, nothing is written.
+// gains become the coefficients that take them to its values at the targets. Nothing is written where e, the number of points or that of targets exceeds 32,
+// where a point or a target is 00 or two points are equal, and where leading or gains is longer or shorter than a row for each target.
 pub fn completion_rows(e: usize, at: &[u8], targets: &[u8], leading: &mut [u8], gains: &mut [u8])
     ensures { λ _. ⌜ ExtendsPost e (now (at .entry)) (now (targets .entry)) (now (leading .entry)) (now (gains .entry)) (now (leading .exit)) (now (gains .exit)) ⌝ }
 {

@@ -1,4 +1,4 @@
--- Where out has just the rows' length, they are filled in. Assumes nothing.
+-- Where out is as long as the rows, they are filled in. Assumes nothing.
 use mathlib.Core.Path.{_≡_}
 use Prim.Native.Nat.{_*_}
 use borrow.Author.Needs.{needs}

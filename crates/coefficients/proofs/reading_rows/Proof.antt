@@ -1,4 +1,4 @@
--- Where there are points that tell a polynomial, and just the rows' length, the rows are those of the basis polynomials. Assumes nothing.
+-- Where the points tell a polynomial, and there are as many bytes as the rows have, these are those of the basis polynomials. Assumes nothing.
 use native.Mathlib.Omega.{arith}
 use borrow.Author.Needs.{needs}
 use borrow.Author.Tests.{not-true, not-false}
