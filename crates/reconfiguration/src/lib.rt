@@ -35,8 +35,8 @@ pub fn reconfigure(
     0
 }
 
-// Makes room for the old pair's blocks outside W', no more than is wanted, since room is cleared at each call. The function for rooms over 128 bytes has three of
-// them and is called at two places, the first test being there for that alone: the compiler then keeps it apart, and a small call takes no stack for these rooms.
+// Makes room for the old pair's blocks outside W', no more than is wanted, since room is cleared at each call. The function for rooms over 128 bytes is called at
+// two places, as in `repair_blocks` of crate maintenance.
 fn reconfigure_blocks(
     a: Params,
     shape: Shape,
