@@ -1,21 +1,20 @@
 -- Rows over nodes, from those over points: what they ask of a set, and what they take to what, told by the nodes' points. Assumes nothing.
 use mathlib.Core.Path.{_≡_, sym, ap, _∙_}
-use mathlib.Core.Bool.{_&&_}
 use mathlib.Core.List.{List}
 use Prim.Native.Nat.{ℕ, suc, _+_, _*_, _^_, _≤_, _<_}
 use native.Mathlib.Omega.{arith}
-use lib.Dec.{leb}
-use lib.ListN.{length}
+use lib.ListN.{length, take}
+use lib.Seq.{getD-take, length-take-le}
 use Rattle.base.specs.Seq.{tabulate, cell}
+use Rattle.base.specs.Parts.{Filled}
 use Rattle.base.proofs.Seq.{length-tabulate, getD-tabulate, eq-tabulate}
 use Rattle.field.specs.Field.{IsByte, add, mul, pow}
 use Rattle.field.specs.FiniteSum.{sum}
 use Rattle.interpolation.specs.Polynomial.{evaluate}
-use Rattle.params.specs.Nodes.{has, size, outside}
-use Rattle.params.proofs.Sets.{all-size}
+use Rattle.params.specs.Nodes.{size}
 use Rattle.code.specs.Code.{point}
 use Rattle.code.specs.Points.{pointAt, pointsOf}
-use Rattle.code.proofs.Points.{length-pointsOf, pointsOf-most, pointsOf-at, pointsOf-points, pointsOf-all}
+use Rattle.code.proofs.Points.{length-pointsOf, pointsOf-most, pointsOf-at, pointsOf-points}
 use Rattle.coefficients.specs.Coefficients.{powerRows, PowersPost, Reads, Readable, Extends, Roomy}
 use Rattle.coefficients.proofs.Laws.{length-powerRows, powerRows-at, reads-at, extends-at}
 use Rattle.node_rows.specs.Rows.{pointPowers, EncodesPost}
@@ -32,21 +31,21 @@ pointPowers-at n m i j hi hj =
     powerRows-at m (tabulate n (λ j. point (suc j))) i j (omega (arith, length-tabulate n (λ j. point (suc j)))) hj
     ∙ ap (λ (c : ℕ). pow c (suc j)) (getD-tabulate n (λ j. point (suc j)) i hi)
 
--- what encoding_rows leaves, o being all nodes of 1..n
-pub encodes-made : (n m o : ℕ) → n ≤ 32 → o < 2 ^ 32 → ((i : ℕ) → has o i ≡ (outside n 0 i && leb i 32)) → (points old new : List ℕ) → points ≡ pointsOf o
-    → PowersPost points m old new → EncodesPost n m old new
+-- what encoding_rows leaves: the points of the nodes 1, .., n are lent from the front of their room
+pub encodes-made : (n m : ℕ) → n ≤ 32 → (room points old new : List ℕ) → length room ≡ 32 → Filled (λ j. point (suc j)) n room points
+    → PowersPost (take n points) m old new → EncodesPost n m old new
 unfolding pointPowers
-encodes-made n m o small h is points old new lent post =
+encodes-made n m small room points old new full filled post =
     record {
-      written = λ le room. post .written (room ∙ ap (λ (k : ℕ). k * m) (sym many)) ∙ ap (powerRows m) all;
-      kept = λ none. post .kept (λ room. none (small, room ∙ ap (λ (k : ℕ). k * m) many));
+      written = λ le fits. post .written (fits ∙ ap (λ (k : ℕ). k * m) (sym many)) ∙ ap (powerRows m) all;
+      kept = λ none. post .kept (λ fits. none (small, fits ∙ ap (λ (k : ℕ). k * m) many));
     }
   where
-    all : points ≡ tabulate n (λ j. point (suc j))
-    all = lent ∙ eq-tabulate n _ (pointsOf o) (length-pointsOf o ∙ all-size n o small is h) (pointsOf-all n o small h is)
+    many : length (take n points) ≡ n
+    many = length-take-le n points (omega (arith, filled .same ∙ full))
 
-    many : length points ≡ n
-    many = ap length all ∙ length-tabulate n (λ j. point (suc j))
+    all : take n points ≡ tabulate n (λ j. point (suc j))
+    all = eq-tabulate n _ (take n points) many (λ j hj. getD-take n points j 0 hj ∙ filled .done j hj)
 
 -- ---- a reading
 

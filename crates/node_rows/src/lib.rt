@@ -1,10 +1,17 @@
 // The small matrices of coefficients for nodes: here a node becomes a point, and nowhere else. Each function lists the points of its nodes, in rising order of the
 // nodes, and hands the lists on to crate coefficients, which knows of points alone.
+use code::point;
 use code::points_of;
 use coefficients::completion_rows;
 use coefficients::power_rows;
 use coefficients::reading_rows;
+use params::Node;
 use params::NodeSet;
+ghost use mathlib.Core.Path.{_≡_};
+ghost use Prim.Native.Nat.{suc, _≤_};
+ghost use lib.ListN.{length};
+ghost use Rattle.base.specs.Parts.{Filled};
+ghost use Rattle.code.specs.Code.{point};
 ghost use Rattle.code.specs.Points.{pointsOf};
 ghost use Rattle.coefficients.specs.Coefficients.{ReadsPost, ExtendsPost};
 ghost use Rattle.node_rows.specs.Rows.{EncodesPost};
@@ -17,9 +24,20 @@ pub fn encoding_rows(n: usize, m: usize, rows: &mut [u8])
         return;
     }
     let mut points = [0u8; 32];
-    let all = NodeSet(0).outside(n);
-    let count = points_of(all, &mut points);
-    power_rows(&points[..count], m, rows);
+    first_points(n, &mut points);
+    power_rows(&points[..n], m, rows);
+}
+
+// The first n of points := those of the nodes 1, .., n.
+fn first_points(n: usize, points: &mut [u8])
+    requires { ⌜ (n ≤ 32) × (length (now points) ≡ 32) ⌝ }
+    ensures { λ _. ⌜ Filled (λ j. point (suc j)) n (now (points .entry)) (now (points .exit)) ⌝ }
+{
+    let mut j = 0;
+    while j < n {
+        points[j] = point(Node((j + 1) as u8)).0;
+        j += 1;
+    }
 }
 
 // rows := what takes the blocks of from's nodes to the k leading parts, where message and slack have as many parts as from has nodes. Where it has fewer than k, or rows
