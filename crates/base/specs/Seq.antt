@@ -1,7 +1,13 @@
--- Lists given by their entries. Assumes nothing.
+-- Lists given by their entries, and a test as a number. Assumes nothing.
+use mathlib.Core.Bool.{Bool, true, false}
 use mathlib.Core.List.{List, [], _∷_}
 use Prim.Native.Nat.{ℕ, zero, suc, _+_, _*_, _/_, _%_}
 use lib.ListN.{getD}
+
+-- 1 for yes, 0 for no.
+abbrev pub one : Bool → ℕ
+one true = 1
+one false = 0
 
 -- The list of n entries whose entry i is f i.
 unfoldable pub tabulate : ℕ → (ℕ → ℕ) → List ℕ

@@ -10,7 +10,7 @@ use native.Mathlib.Omega.{arith}
 use borrow.Author.Tests.{eq-eqb, ne-eqb}
 use lib.ListN.{length, getD, set, length-set}
 use lib.Seq.{getD-set-same, getD-set-other}
-use Rattle.base.specs.Seq.{cell}
+use Rattle.base.specs.Seq.{one, cell}
 use Rattle.base.proofs.Cases.{eq-or}
 use Rattle.base.proofs.Seq.{tabulate-ext, cell-blocks}
 use Rattle.field.specs.Field.{IsByte, add, mul, pow}
@@ -21,7 +21,7 @@ use Rattle.field.proofs.FiniteSum.{sum-ext}
 use Rattle.interpolation.specs.Polynomial.{Points}
 use Rattle.interpolation.specs.Lagrange.{product, factor, apart, basisValue}
 use Rattle.interpolation.proofs.Lagrange.{apart-byte, apart-elsewhere, apart-nonzero, apart-whole, lagrange}
-use Rattle.coefficients.specs.Working.{unit, same, unitRow, basisValues, basisValueRows, Missing, Weighed, Weighable, Carries, remaining}
+use Rattle.coefficients.specs.Working.{same, unitRow, basisValues, basisValueRows, Missing, Weighed, Weighable, Carries, remaining}
 use Rattle.coefficients.proofs.Rows.{tabulated}
 
 -- ---- products by the sums of exponents
@@ -113,12 +113,12 @@ module _ (e : ℕ) (at : List ℕ) (target : ℕ) (can : Weighable e at) (byte :
 -- ---- a target that is one
 
 pub same-equal : (x y : ℕ) → x ≡ y → same x y ≡ 1
-unfolding same unit
-same-equal x y e = ap unit (eq-eqb x y e)
+unfolding same
+same-equal x y e = ap one (eq-eqb x y e)
 
 pub same-other : (x y : ℕ) → (x ≡ y → ⊥) → same x y ≡ 0
-unfolding same unit
-same-other x y n = ap unit (ne-eqb x y n)
+unfolding same
+same-other x y n = ap one (ne-eqb x y n)
 
 pub unit-gains : (e : ℕ) (at : List ℕ) (target i : ℕ) → Weighable e at → i < length at → getD at i 0 ≡ target → unitRow at target ≡ basisValues e at target
 unfolding unitRow basisValues basisValue

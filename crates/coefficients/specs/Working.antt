@@ -5,7 +5,7 @@ use mathlib.Core.List.{List}
 use Prim.Native.Nat.{ℕ, suc, _+_, _*_, _≤_, _<_}
 use lib.Dec.{eqb}
 use lib.ListN.{length, getD}
-use Rattle.base.specs.Seq.{tabulate, cell, blocks}
+use Rattle.base.specs.Seq.{one, tabulate, cell, blocks}
 use Rattle.field.specs.Field.{IsByte, add, mul, pow}
 use Rattle.field.specs.FiniteSum.{sum}
 use Rattle.interpolation.specs.Polynomial.{Points}
@@ -97,14 +97,9 @@ pub record Findable (e : ℕ) (at weights : List ℕ) (target : ℕ) (gains : Li
 unfoldable pub basisValueRows : ℕ → List ℕ → List ℕ → List ℕ
 basisValueRows e at targets = blocks (length at) (length targets) (λ t o. basisValue e at (getD at o 0) (getD targets t 0))
 
--- 01 for yes, 00 for no
-unfoldable pub unit : Bool → ℕ
-unit true = 1
-unit false = 0
-
 -- 01 for equal points, 00 for others
 unfoldable pub same : ℕ → ℕ → ℕ
-same x y = unit (eqb x y)
+same x y = one (eqb x y)
 
 -- the row that counts the value at the target itself, and no other
 unfoldable pub unitRow : List ℕ → ℕ → List ℕ

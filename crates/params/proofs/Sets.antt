@@ -17,9 +17,10 @@ use lib.ListN.{length, getD, drop, replicate, length-append, List·getD-append, 
 use lib.Pow.{pow-pos, pow-mono, shr-lt, mod-pow-add}
 use lib.Seq.{getD-at, getD-append-add}
 use borrow.Author.Tests.{ltb-true, eqb-true, eqb-false, lt-ltb, leb-true, le-leb, lt-leb, eq-eqb}
+use Rattle.base.specs.Seq.{one}
 use Rattle.base.proofs.Cases.{lt-or}
 use Rattle.base.proofs.Seq.{zeros-at}
-use Rattle.params.specs.Nodes.{has, size, within, disjoint, one, count, only, nodes, outside, listed, Listing}
+use Rattle.params.specs.Nodes.{has, size, within, disjoint, count, only, nodes, outside, listed, Listing}
 
 -- ---- one node
 

@@ -14,8 +14,9 @@ use lib.ListN.{length, getD, drop, set, length-append, length-drop}
 use lib.Pow.{pow-pos, shl-exact, shr-lt, shr-shr, shr-le, split, high, ones-split}
 use lib.Seq.{set-at, drop-cons, append-snoc}
 use borrow.Author.Tests.{leb-true, le-leb, eq-eqb}
+use Rattle.base.specs.Seq.{one}
 use Rattle.base.proofs.Cases.{lt-or}
-use Rattle.params.specs.Nodes.{has, size, one, count, only, nodes, outside, Listing}
+use Rattle.params.specs.Nodes.{has, size, count, only, nodes, outside, Listing}
 use Rattle.params.proofs.Sets.{length-nodes, count-le, rank-lt, nodes-stop, count-stop, range-yes, range-no, size-count, has-past, has-none, has-and}
 
 -- 1 shifted by less than the width

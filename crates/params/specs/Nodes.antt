@@ -7,7 +7,7 @@ use lib.Dec.{leb, ltb, eqb}
 use lib.Bits.{bitAnd}
 use lib.Count.{ones}
 use lib.ListN.{length, getD, take, drop}
-use Rattle.base.specs.Seq.{tabulate}
+use Rattle.base.specs.Seq.{one, tabulate}
 
 -- "A choice of traps is a 32-bit number; trap i is worth 2^(i−1), so no trap can be named twice." Node suc j is in the set when bit j is 1.
 unfoldable pub has : ℕ → ℕ → Bool
@@ -25,11 +25,6 @@ within n s = ltb s (2 ^ n)
 -- "Is L free of R's traps?"
 unfoldable pub disjoint : ℕ → ℕ → Bool
 disjoint l r = eqb (bitAnd l r) 0
-
--- 1 for a node that passes the test, 0 for another.
-abbrev pub one : Bool → ℕ
-one true = 1
-one false = 0
 
 -- How many of the nodes 1..n pass the test f: for a node of a set, its rank is the count below it.
 unfoldable pub count : (ℕ → Bool) → ℕ → ℕ
