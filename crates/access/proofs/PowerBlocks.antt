@@ -7,6 +7,7 @@ use native.Mathlib.Omega.{arith}
 use lib.ListN.{length, take, drop, replicate, length-replicate}
 use Rattle.base.specs.Seq.{cell}
 use Rattle.base.proofs.Buffers.{areas-fit}
+use Rattle.base.proofs.Seq.{cell-take, cell-drop}
 use Rattle.field.specs.Field.{add, mul, pow}
 use Rattle.field.specs.FiniteSum.{sum}
 use Rattle.field.proofs.Addition.{add-zero-right}
@@ -14,7 +15,6 @@ use Rattle.field.proofs.Multiplication.{mul-comm}
 use Rattle.field.proofs.FiniteSum.{sum-zero, sum-ext}
 use Rattle.interpolation.specs.Polynomial.{evaluate}
 use Rattle.interpolation.proofs.Evaluate.{evaluate-join}
-use Rattle.interpolation.proofs.Rows.{cell-take, cell-drop}
 use Rattle.params.specs.Nodes.{inOrder}
 use Rattle.params.specs.Params.{slackParts, working}
 use Rattle.params.specs.declared.Params.{Params}

@@ -11,8 +11,8 @@ use Rattle.base.proofs.Seq.{cells-ext}
 use Rattle.field.specs.Field.{mul}
 use Rattle.field.specs.FiniteSum.{sum}
 use Rattle.field.proofs.FiniteSum.{sum-ext}
+use Rattle.field.proofs.Bytes.{cell-byte}
 use Rattle.interpolation.specs.Polynomial.{evaluate}
-use Rattle.interpolation.proofs.Rows.{cell-byte}
 use Rattle.params.specs.Nodes.{has, size, inOrder, placesOf}
 use Rattle.params.specs.Params.{slackParts, working}
 use Rattle.params.proofs.Placing.{place-of, placed-length, placed-inside}

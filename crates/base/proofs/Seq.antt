@@ -6,8 +6,8 @@ use Prim.Native.Nat.{ℕ, zero, suc, _+_, _*_, _/_, _%_, _≤_, _<_}
 use native.Mathlib.Nat.{not-suc-le-zero, le-of-suc-le-suc, zero-lt-suc, div-add-mod', div-lt-iff-lt-mul, mod-lt}
 use native.Mathlib.Omega.{arith}
 use lib.Arith.{digits-lt, digits-div, digits-mod}
-use lib.ListN.{length, getD, replicate, length-replicate, getD-replicate, List·getD-eq-default}
-use lib.Seq.{ext-getD}
+use lib.ListN.{length, getD, take, drop, replicate, length-replicate, getD-replicate, List·getD-eq-default}
+use lib.Seq.{ext-getD, getD-take, getD-drop}
 use Rattle.base.specs.Seq.{tabulate, cell, blocks}
 use Rattle.base.proofs.Cases.{lt-or}
 
@@ -84,3 +84,15 @@ tabulate-zeros (suc n) = ap (λ (l : List ℕ). 0 ∷ l) (tabulate-zeros n)
 pub zeros-at : (n j : ℕ) → getD (replicate {A = ℕ} n 0) j 0 ≡ 0
 zeros-at n j =
     ⊎-elim (getD-replicate n j 0 0) (λ h. List·getD-eq-default (replicate n 0) 0 (omega (arith, length-replicate {A = ℕ} n 0))) (lt-or j n)
+
+-- the first e blocks, and the rest
+pub cell-take : (b e : ℕ) (l : List ℕ) (j p : ℕ) → j < e → p < b → cell b (take (e * b) l) j p ≡ cell b l j p
+unfolding cell
+cell-take b e l j p hj hp = getD-take (e * b) l (j * b + p) 0 (cell-lt b e j p hj hp)
+
+pub cell-drop : (b e : ℕ) (l : List ℕ) (j p : ℕ) → cell b (drop (e * b) l) j p ≡ cell b l (e + j) p
+unfolding cell
+cell-drop b e l j p = getD-drop (e * b) l (j * b + p) 0 ∙ ap (λ (k : ℕ). getD l k 0) place
+  where
+    place : e * b + (j * b + p) ≡ (e + j) * b + p
+    place = omega arith

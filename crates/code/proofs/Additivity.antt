@@ -7,7 +7,7 @@ use Rattle.base.specs.Seq.{tabulate, cell}
 use Rattle.base.proofs.Seq.{length-tabulate, getD-tabulate, cell-lt}
 use Rattle.field.specs.Field.{IsByte, add}
 use Rattle.field.proofs.Addition.{add-byte}
-use Rattle.interpolation.proofs.Rows.{bytes-tabulate}
+use Rattle.field.proofs.Bytes.{bytes-tabulate}
 use Rattle.interpolation.proofs.Evaluate.{evaluate-byte, evaluate-ext, evaluate-add}
 use Rattle.params.specs.Params.{slackParts}
 use Rattle.params.specs.declared.Params.{Params}

@@ -10,8 +10,8 @@ use borrow.Author.Tests.{not-true}
 use Rattle.base.specs.Seq.{cell}
 use Rattle.base.proofs.Seq.{cells-ext}
 use Rattle.field.specs.Field.{IsByte, Bytes}
+use Rattle.field.proofs.Bytes.{cell-byte}
 use Rattle.interpolation.specs.Polynomial.{evaluate, Points, Completes}
-use Rattle.interpolation.proofs.Rows.{cell-byte}
 use Rattle.interpolation.proofs.PointLists.{points-of}
 use Rattle.interpolation.proofs.Completion.{completion-exists, completion-unique}
 use Rattle.interpolation.proofs.Parts.{parts-exist, parts-unique}

@@ -15,7 +15,7 @@ use Rattle.field.specs.Field.{IsByte}
 use Rattle.interpolation.specs.Polynomial.{Points}
 use Rattle.interpolation.proofs.PointLists.{points-of, points-1-32}
 use Rattle.params.specs.Nodes.{has, size, count, outside, Listing}
-use Rattle.params.proofs.Sets.{entry, size-count, size-most, all-size, all-at}
+use Rattle.params.proofs.Sets.{entry, size-count, size-most}
 use Rattle.params.proofs.Placing.{entries-told, entries-kept}
 use Rattle.code.specs.Code.{point}
 use Rattle.code.specs.Points.{pointAt, pointsOf, Pointing}
@@ -62,11 +62,6 @@ pointsOf-points s h =
 
     inside : (i : ℕ) (hi : i < length (pointsOf s)) → node i hi .0 < length all-points
     inside i hi = omega (arith, length-tabulate 32 (λ j. point (suc j)), node i hi .2)
-
--- of all nodes of 1..n, as `outside` answers them for the empty set
-pub pointsOf-all : (n o : ℕ) → n ≤ 32 → o < 2 ^ 32 → ((i : ℕ) → has o i ≡ (outside n 0 i && leb i 32)) → (j : ℕ) → j < n
-    → getD (pointsOf o) j 0 ≡ point (suc j)
-pointsOf-all n o small h is j hj = pointsOf-at o j (omega (arith, all-size n o small is h)) ∙ ap point (all-at n o small is j hj)
 
 -- ---- what points_of leaves
 

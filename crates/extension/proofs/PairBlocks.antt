@@ -11,9 +11,10 @@ use Rattle.base.specs.Seq.{cell}
 use Rattle.base.proofs.Seq.{zeros-at}
 use Rattle.field.specs.Field.{add}
 use Rattle.field.proofs.Addition.{add-zero-left}
+use Rattle.field.proofs.Bytes.{cell-byte}
 use Rattle.interpolation.specs.Polynomial.{evaluate}
 use Rattle.interpolation.proofs.Evaluate.{evaluate-join}
-use Rattle.interpolation.proofs.Rows.{join, join-left, join-right, join-byte, cell-byte}
+use Rattle.interpolation.proofs.Rows.{join, join-left, join-right, join-byte}
 use Rattle.params.specs.Nodes.{has, size, count, listed, placesOf, inOrder}
 use Rattle.params.specs.Params.{slackParts, working}
 use Rattle.params.specs.declared.Params.{Params}

@@ -15,8 +15,8 @@ use Rattle.field.specs.Field.{Bytes, add, mul}
 use Rattle.field.specs.FiniteSum.{sum}
 use Rattle.field.proofs.Addition.{add-zero-left, add-zero-right, add-assoc}
 use Rattle.field.proofs.FiniteSum.{sum-ext, sum-add}
+use Rattle.field.proofs.Bytes.{cell-byte}
 use Rattle.interpolation.specs.Polynomial.{evaluate}
-use Rattle.interpolation.proofs.Rows.{cell-byte}
 use Rattle.params.specs.Nodes.{size, inOrder}
 use Rattle.code.specs.Points.{pointAt, pointsOf}
 use Rattle.kernels.specs.Blocks.{product, when, arriving, Fits, Added}

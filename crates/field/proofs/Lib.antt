@@ -3,3 +3,4 @@ pub mod Multiplication
 pub mod Exponents
 pub mod FiniteSum
 pub mod Kernel
+pub mod Bytes

@@ -41,10 +41,6 @@ pub working-le : (a : Params) → Valid a → working a ≤ a .n
 unfolding working
 working-le a v = omega arith
 
--- what Params::working answers
-pub working-held : (a : Params) → Valid a → min (working a) (2 ^ 64 - 1) ≡ a .r
-working-held a v = min-eq-left (omega (arith, working-le a v)) ∙ working-is a v
-
 -- ---- the questions of a shape and of parameters, with others behind them
 
 pub shape-known : (more : ℕ) (t : Shape) {R : Type 0} → YesAnd (shapeAsked more t) R → ValidShape t × R

@@ -13,8 +13,8 @@ use Rattle.field.proofs.Addition.{add-byte, add-comm, add-cancel}
 use Rattle.field.proofs.Multiplication.{mul-byte}
 use Rattle.field.proofs.Exponents.{pow-byte, pow-nonzero, inverse-exists}
 use Rattle.field.proofs.FiniteSum.{sum-byte}
+use Rattle.field.proofs.Bytes.{bytes-blocks, cell-byte}
 use Rattle.interpolation.specs.Polynomial.{evaluate, Points, Completes}
-use Rattle.interpolation.proofs.Rows.{bytes-blocks, cell-byte}
 use Rattle.interpolation.proofs.Horner.{sum-value, undo, Interpolates, interpolant}
 use Rattle.interpolation.proofs.Kernel.{rest-unique}
 

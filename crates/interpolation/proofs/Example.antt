@@ -10,8 +10,8 @@ use Rattle.base.specs.Seq.{cell, tabulate}
 use Rattle.base.proofs.Test.{allBelow, below}
 use Rattle.field.specs.Field.{mul, pow}
 use Rattle.field.specs.FiniteSum.{sum}
+use Rattle.field.proofs.Bytes.{bytes-tabulate}
 use Rattle.interpolation.specs.Polynomial.{evaluate, Points, Completes}
-use Rattle.interpolation.proofs.Rows.{bytes-tabulate}
 use Rattle.interpolation.proofs.PointLists.{points-upto}
 
 abbrev pub leading : List ℕ

@@ -9,8 +9,8 @@ use Rattle.field.specs.Field.{IsByte, add, mul, pow}
 use Rattle.field.specs.FiniteSum.{sum}
 use Rattle.field.proofs.Addition.{add-byte, add-self, add-eq-zero, add-zero-eq}
 use Rattle.field.proofs.Exponents.{pow-byte, pow-nonzero}
+use Rattle.field.proofs.Bytes.{bytes-tabulate}
 use Rattle.interpolation.specs.Polynomial.{evaluate, Points}
-use Rattle.interpolation.proofs.Rows.{bytes-tabulate}
 use Rattle.interpolation.proofs.Evaluate.{evaluate-add, evaluate-rest}
 use Rattle.interpolation.proofs.Horner.{value-byte, sum-value, other-zero, vanishing}
 

@@ -8,9 +8,11 @@ use native.Mathlib.Omega.{arith}
 use lib.ListN.{length, getD, take, drop, length-drop}
 use lib.Seq.{length-take-le}
 use Rattle.base.specs.Seq.{cell}
+use Rattle.base.proofs.Seq.{cell-take, cell-drop}
 use Rattle.field.specs.Field.{IsByte, Bytes}
+use Rattle.field.proofs.Bytes.{bytes-take, bytes-drop, cell-byte}
 use Rattle.interpolation.specs.Polynomial.{evaluate, Points}
-use Rattle.interpolation.proofs.Rows.{bytes-take, bytes-drop, cell-byte, cell-take, cell-drop, join, join-left, join-right, join-byte}
+use Rattle.interpolation.proofs.Rows.{join, join-left, join-right, join-byte}
 use Rattle.interpolation.proofs.Evaluate.{evaluate-join}
 use Rattle.interpolation.proofs.Kernel.{rest-unique}
 use Rattle.interpolation.proofs.Completion.{completion-exists}

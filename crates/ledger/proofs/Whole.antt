@@ -14,7 +14,7 @@ use Rattle.base.proofs.Cases.{lt-or, eq-or}
 use Rattle.base.proofs.Seq.{length-blocks}
 use Rattle.field.specs.Field.{IsByte, Bytes}
 use Rattle.field.proofs.Addition.{add-byte}
-use Rattle.interpolation.proofs.Rows.{bytes-blocks, cell-byte}
+use Rattle.field.proofs.Bytes.{bytes-blocks, cell-byte}
 use Rattle.params.specs.Nodes.{has}
 use Rattle.params.specs.Params.{reshaped}
 use Rattle.gates.specs.Gates.{decodeGate}

@@ -262,31 +262,6 @@ disjoint-has l r h = (
     apart true true f = absurd (f refl refl)
     apart true false f = refl
 
--- the set's nodes first, then zeros, 32 places in all
-abbrev pub Lists : ℕ → List ℕ → Type 0
-Lists s l = l ≡ listed s ++ replicate (32 - size s) 0
-
--- behind the nodes both give 0
-pub list-at : (s : ℕ) → s < 2 ^ 32 → (l : List ℕ) → Lists s l → (j : ℕ) → getD l j 0 ≡ getD (listed s) j 0
-list-at s h l e j =
-    ap (λ (k : List ℕ). getD k j 0) e
-    ∙ ⊎-elim (λ (lt : j < length (listed s)). List·getD-append (listed s) _ 0 j lt)
-    (λ (le : length (listed s) ≤ j).
-    let q : length (listed s) + (j - length (listed s)) ≡ j = omega arith in
-    ap (λ (k : ℕ). getD (listed s ++ replicate (32 - size s) 0) k 0) (sym q)
-    ∙ getD-append-add (listed s) (replicate (32 - size s) 0) (j - length (listed s)) 0 ∙ zeros-at (32 - size s) (j - length (listed s))
-    ∙ sym (List·getD-eq-default (listed s) 0 le))
-    (lt-or j (length (listed s)))
-
--- what NodeSet::list makes of 32 zeros
-pub listing-zeros : {answer : ℕ} (s : ℕ) (new : List ℕ) → Listing s (replicate 32 0) answer new → Lists s new
-listing-zeros s new l = l .written refl ∙ ap (λ (r : List ℕ). listed s ++ r) (drop-replicate 32 (size s))
-  where
-    drop-replicate : (n k : ℕ) → drop k (replicate {A = ℕ} n 0) ≡ replicate (n - k) 0
-    drop-replicate n zero = simp sub-zero
-    drop-replicate zero (suc k) = simp zero-sub
-    drop-replicate (suc n) (suc k) = simp suc-sub-suc (drop-replicate n k)
-
 -- ---- a set by its nodes
 
 bit-same : (x y : ℕ) → x < 2 → y < 2 → eqb x 1 ≡ eqb y 1 → x ≡ y
@@ -339,18 +314,3 @@ module _ (n s o : ℕ) (small : n ≤ 32) (is : (i : ℕ) → has o i ≡ (outsi
               gone : (a c : Bool) → ((a && false) && c) ≡ false
               gone true c = refl
               gone false c = refl
-
--- all nodes of 1..n, as `outside` answers it for the empty set
-module _ (n o : ℕ) (small : n ≤ 32) (is : (i : ℕ) → has o i ≡ (outside n 0 i && leb i 32)) where
-  all-has : (j : ℕ) → j < n → has o (suc j) ≡ true
-  all-has j h = outside-has n 0 o small is (suc j) ∙ ap₂ (λ (a b : Bool). a && not b) (range-yes n j h) (has-none (suc j))
-
-  pub all-size : o < 2 ^ 32 → size o ≡ n
-  unfolding size ones within
-  all-size ho = outside-size n 0 o small is ho (lt-ltb 0 (2 ^ n) (pow-pos n)) ∙ sub-zero n
-
-  -- node suc j stands at place j
-  pub all-at : (j : ℕ) → j < n → getD (listed o) j 0 ≡ suc j
-  all-at j h =
-      let rank : count (has o) j ≡ j = count-all (has o) j (λ i hi. all-has i (omega arith)) in
-      ap (λ (k : ℕ). getD (listed o) k 0) (sym rank) ∙ node-at-rank (has o) 32 j (omega arith) (all-has j h)

@@ -14,8 +14,8 @@ use Rattle.base.proofs.Cases.{lt-or}
 use Rattle.base.proofs.Parts.{row-ends}
 use Rattle.base.proofs.Seq.{cell-lt}
 use Rattle.field.specs.Field.{Bytes}
+use Rattle.field.proofs.Bytes.{cell-byte}
 use Rattle.interpolation.specs.Polynomial.{evaluate}
-use Rattle.interpolation.proofs.Rows.{cell-byte}
 use Rattle.params.specs.Nodes.{has, size}
 use Rattle.params.specs.Params.{slackParts, reshaped}
 use Rattle.params.specs.declared.Params.{Params}

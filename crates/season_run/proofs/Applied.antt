@@ -14,8 +14,7 @@ use Rattle.base.specs.Seq.{cell}
 use Rattle.base.proofs.Cases.{eq-or}
 use Rattle.base.specs.Parts.{partOf, putBlock}
 use Rattle.base.proofs.Parts.{length-partOf, putBlock-here, putBlock-other, putBlock-length, row-ends}
-use Rattle.base.proofs.Seq.{cells-ext, cell-blocks, length-blocks}
-use Rattle.interpolation.proofs.Rows.{cell-take}
+use Rattle.base.proofs.Seq.{cells-ext, cell-blocks, length-blocks, cell-take}
 use Rattle.gates.specs.Valid.{Valid}
 use Rattle.params.specs.declared.Params.{Params}
 use Rattle.params.specs.Params.{reshaped}

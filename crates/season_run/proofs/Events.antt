@@ -11,7 +11,7 @@ use lib.Seq.{length-take-le}
 use borrow.Author.Tests.{ltb-false}
 use Rattle.base.proofs.Seq.{tabulate-zeros}
 use Rattle.field.specs.Field.{Bytes}
-use Rattle.interpolation.proofs.Rows.{bytes-tabulate, bytes-take, bytes-drop}
+use Rattle.field.proofs.Bytes.{bytes-tabulate, bytes-take, bytes-drop}
 use Rattle.params.specs.declared.Params.{Params}
 use Rattle.gates.specs.Gates.{updateGate, repairGate, damageGate, decodeGate, reconfigureGate}
 use Rattle.ledger.specs.Ledger.{Held, Step, updated, repaired, reconfigured, decoded, damaged, Typed}

@@ -8,7 +8,7 @@ use native.Mathlib.Omega.{arith}
 use lib.ListN.{length, take, replicate, length-replicate}
 use Rattle.base.proofs.Cases.{lt-or, eq-or}
 use Rattle.field.specs.Field.{Bytes}
-use Rattle.interpolation.proofs.Rows.{bytes-take}
+use Rattle.field.proofs.Bytes.{bytes-take}
 use Rattle.params.specs.Nodes.{has}
 use Rattle.gates.specs.Gates.{encodeGate, decodeGate}
 use Rattle.gates.proofs.Valid.{decode-accepted}

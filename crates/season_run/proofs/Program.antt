@@ -9,8 +9,8 @@ use lib.ListN.{length, take, drop, length-append, length-drop}
 use lib.Seq.{take-at}
 use Rattle.base.proofs.Cases.{eq-or}
 use Rattle.field.specs.Field.{Bytes}
+use Rattle.field.proofs.Bytes.{bytes-take}
 use Rattle.gates.specs.Valid.{Valid}
-use Rattle.interpolation.proofs.Rows.{bytes-take}
 use Rattle.ledger.specs.Ledger.{Held, withCodeword}
 use Rattle.ledger.proofs.Whole.{Whole}
 use Rattle.season_lines.specs.Lines.{lineOf, Wrote}

@@ -17,11 +17,11 @@ use Rattle.field.proofs.Addition.{add-zero-right}
 use Rattle.field.proofs.Multiplication.{mul-zero-right}
 use Rattle.field.proofs.FiniteSum.{sum-zeros}
 use Rattle.interpolation.specs.Polynomial.{evaluate}
-use Rattle.interpolation.proofs.Rows.{cell-byte}
 use Rattle.params.specs.Nodes.{has, size, outside, listed, inOrder}
 use Rattle.params.specs.Params.{slackParts}
 use Rattle.params.specs.declared.Params.{Params}
 use Rattle.base.proofs.Questions.{both-known, both-le}
+use Rattle.field.proofs.Bytes.{cell-byte}
 use Rattle.params.proofs.Sets.{size-count, entry, outside-has, outside-size}
 use Rattle.code.specs.Code.{point, block}
 use Rattle.code.specs.Points.{pointAt, pointsOf}

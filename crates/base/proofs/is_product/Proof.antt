@@ -1,4 +1,5 @@
--- For size 0 the product is 0; otherwise length is count · size exactly when count is the quotient and no remainder is left. Assumes nothing.
+-- The product of small numbers does not overflow. For size 0 it is 0; otherwise length is count · size exactly when count is the quotient and no remainder is
+-- left. Assumes nothing.
 use mathlib.Core.Path.{_≡_, sym, ap, _∙_}
 use mathlib.Core.Bool.{false}
 use mathlib.Core.Logic.{⊎-elim}
@@ -27,20 +28,29 @@ rest l c s q =
     whole : c * s + l % s ≡ l
     whole = ap (λ (k : ℕ). k * s + l % s) (sym q) ∙ div-add-mod' l s
 
-returns : tie.Need-returns
-returns c = empty _ _ _ (c .if1 .taken)
+small-requires : tie.Need-small-requires
+small-requires c κs = search needs
 
-div-if2 : tie.Need-div-if2
-div-if2 c = search needs
+mul-result : tie.Need-mul-result
+mul-result c = omega (arith, c .before .small .ensures (c .if1 .taken))
+
+returns : tie.Need-returns
+returns c = search needs
 
 returns-2 : tie.Need-returns-2
-returns-2 c = other _ _ _ (omega arith) (c .if2 .taken)
+returns-2 c = empty _ _ _ (c .if2 .taken)
+
+div-if3 : tie.Need-div-if3
+div-if3 c = search needs
+
+returns-3 : tie.Need-returns-3
+returns-3 c = other _ _ _ (omega arith) (c .if3 .taken)
 
 rem-result : tie.Need-rem-result
 rem-result c = search needs
 
-returns-3 : tie.Need-returns-3
-returns-3 c = rest _ _ _ (c .if2 .left)
+returns-4 : tie.Need-returns-4
+returns-4 c = rest _ _ _ (c .if3 .left)
 
 pub is-product-spec : {M : Type 1} → statement M
-is-product-spec = tie.close (tie.spec returns div-if2 returns-2 rem-result returns-3)
+is-product-spec = tie.close (tie.spec small-requires mul-result returns returns-2 div-if3 returns-3 rem-result returns-4)
