@@ -47,10 +47,6 @@ fn check_over_128(a: Params, codeword: &[u8]) -> Verdict
         let mut fresh = [0u8; 1024];
         return check_within(a, codeword, &mut fresh);
     }
-    if size <= 8192 {
-        let mut fresh = [0u8; 8192];
-        return check_within(a, codeword, &mut fresh);
-    }
     let mut fresh = [0u8; 32768];
     check_within(a, codeword, &mut fresh)
 }

@@ -79,11 +79,6 @@ fn reconfigure_over_128(
         reconfigure_within(a, shape, codeword, from, to, message, &mut z, out);
         return;
     }
-    if size <= 8192 {
-        let mut z = [0u8; 8192];
-        reconfigure_within(a, shape, codeword, from, to, message, &mut z, out);
-        return;
-    }
     let mut z = [0u8; 32768];
     reconfigure_within(a, shape, codeword, from, to, message, &mut z, out);
 }

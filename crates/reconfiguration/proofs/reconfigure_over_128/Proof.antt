@@ -1,4 +1,4 @@
--- Each of the three rooms is enough for the blocks that it is made for: the largest has place for 32 of 1,024 bytes. Assumes nothing.
+-- Each of the two rooms is enough for the blocks that it is made for: the largest has place for 32 of 1,024 bytes. Assumes nothing.
 use mathlib.Core.Path.{_≡_, subst}
 use Prim.Native.Nat.{ℕ, _*_, _≤_}
 use native.Mathlib.Omega.{arith}
@@ -56,31 +56,15 @@ slice-aggregate-reconfigure-within-2 c = search needs
 
 reconfigure-within-requires-2 : tie.Need-reconfigure-within-requires-2
 reconfigure-within-requires-2 c κs =
-    let e = c .before .before in
-    let z = e .before .before .before in
+    let z = c .before .before .before .before in
     let s = start z in
-    (s .pre, subst (λ (m : ℕ). m * s .args .a .b ≤ 8192) (count-is z) (omega (arith, e .if2 .taken)))
+    (s .pre, subst (λ (m : ℕ). m * s .args .a .b ≤ 32768) (count-is z) (blocks-most _ (s .args .a .b) (few z) (s .pre .b-high)))
 
 same-length-2 : tie.Need-same-length-2
 same-length-2 c = search needs
 
 returns-2 : tie.Need-returns-2
 returns-2 c = search needs
-
-slice-aggregate-reconfigure-within-3 : tie.Need-slice-aggregate-reconfigure-within-3
-slice-aggregate-reconfigure-within-3 c = search needs
-
-reconfigure-within-requires-3 : tie.Need-reconfigure-within-requires-3
-reconfigure-within-requires-3 c κs =
-    let z = c .before .before .before .before .before in
-    let s = start z in
-    (s .pre, subst (λ (m : ℕ). m * s .args .a .b ≤ 32768) (count-is z) (blocks-most _ (s .args .a .b) (few z) (s .pre .b-high)))
-
-same-length-3 : tie.Need-same-length-3
-same-length-3 c = search needs
-
-returns-3 : tie.Need-returns-3
-returns-3 c = search needs
 
 pub reconfigure-over-128-spec : {M : Type 1} → statement M
 reconfigure-over-128-spec =
@@ -96,8 +80,4 @@ reconfigure-over-128-spec =
     slice-aggregate-reconfigure-within-2
     reconfigure-within-requires-2
     same-length-2
-    returns-2
-    slice-aggregate-reconfigure-within-3
-    reconfigure-within-requires-3
-    same-length-3
-    returns-3)
+    returns-2)

@@ -1,4 +1,4 @@
--- Each of the three rooms is enough for the blocks that it is made for: the largest has place for 32 of 1,024 bytes. Assumes nothing.
+-- Each of the two rooms is enough for the blocks that it is made for: the largest has place for 32 of 1,024 bytes. Assumes nothing.
 use mathlib.Core.Path.{subst}
 use Prim.Native.Nat.{ℕ, _-_, _*_, _≤_}
 use native.Mathlib.Omega.{arith}
@@ -41,24 +41,11 @@ slice-aggregate-check-within-2 c = search needs
 
 check-within-requires-2 : tie.Need-check-within-requires-2
 check-within-requires-2 c κs =
-    let e = c .before in
-    let w = e .before .before .before .before in
-    let s = start w in
-    (s .pre, subst (λ (q : ℕ). (s .args .a .n - q) * s .args .a .b ≤ 8192) (working-exact (s .args .a) _ _ (s .pre) (w .working .ensures)) (omega (arith, e .if2 .taken)))
+    let s = start (c .before .before .before .before) in
+    (s .pre, blocks-most _ (s .args .a .b) (omega (arith, s .pre .n-high)) (s .pre .b-high))
 
 returns-2 : tie.Need-returns-2
 returns-2 c = search needs
-
-slice-aggregate-check-within-3 : tie.Need-slice-aggregate-check-within-3
-slice-aggregate-check-within-3 c = search needs
-
-check-within-requires-3 : tie.Need-check-within-requires-3
-check-within-requires-3 c κs =
-    let s = start (c .before .before .before .before .before) in
-    (s .pre, blocks-most _ (s .args .a .b) (omega (arith, s .pre .n-high)) (s .pre .b-high))
-
-returns-3 : tie.Need-returns-3
-returns-3 c = search needs
 
 pub check-over-128-spec : {M : Type 1} → statement M
 check-over-128-spec =
@@ -72,7 +59,4 @@ check-over-128-spec =
     returns
     slice-aggregate-check-within-2
     check-within-requires-2
-    returns-2
-    slice-aggregate-check-within-3
-    check-within-requires-3
-    returns-3)
+    returns-2)
