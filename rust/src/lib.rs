@@ -13,7 +13,7 @@
 //! by the first that is answered no. A refused call writes nothing.
 //!
 //! No call allocates or keeps any state. Each takes its room on the stack, up to
-//! 88 kB.
+//! 62 kB.
 //!
 //! ```
 //! use jirvents::{decode, encode, repair, update, view, Params};
