@@ -1,8 +1,8 @@
--- Whether a list has a point, and whether its points tell a polynomial: each point is compared with those before it. Assumes nothing.
-use mathlib.Core.Path.{_≡_, sym, ap, _∙_}
-use mathlib.Core.Bool.{true, false, true≢false}
+-- Whether a list has a point, and whether its points tell a polynomial: each point exceeds those before it, or is compared with them. Assumes nothing.
+use mathlib.Core.Path.{_≡_, refl, sym, ap, _∙_, subst}
+use mathlib.Core.Bool.{Bool, true, false, not, true≢false}
 use mathlib.Core.List.{List}
-use mathlib.Core.Logic.{⊎-elim}
+use mathlib.Core.Logic.{inl, inr, ⊎-elim}
 use Prim.Native.Nat.{ℕ, _+_, _≤_, _<_}
 use native.Mathlib.Omega.{arith}
 use lib.ListN.{length, getD, take}
@@ -11,7 +11,7 @@ use Rattle.base.proofs.Cases.{lt-or, eq-or}
 use Rattle.field.specs.Field.{Bytes}
 use Rattle.interpolation.specs.Polynomial.{Points}
 use Rattle.kernels.specs.Blocks.{Decided}
-use Rattle.coefficients.specs.Working.{Missing, Listed}
+use Rattle.coefficients.specs.Working.{Missing, Listed, AtMost, Told}
 
 -- ---- whether x is one of the points
 
@@ -24,6 +24,30 @@ is-listed points x n h e = record { found = λ t. (n, h, e); missing = λ f. abs
 
 pub not-listed : (points : List ℕ) (x n : ℕ) → length points ≤ n → Missing n points x → Listed points x false
 not-listed points x n h none = record { found = λ t. absurd (true≢false (sym t)); missing = λ f i hi. none i (omega arith) }
+
+-- ---- whether x is new: not 00, and none of the points
+
+-- it exceeds all of them
+pub new-above : (points : List ℕ) (most x : ℕ) → AtMost most (length points) points → most < x → Told points x true
+new-above points most x all lt =
+    record { new = λ t. (λ z. omega arith, λ i hi q. absurd (omega (arith, all i hi))); old = λ f. absurd (true≢false f) }
+
+pub zero-told : (points : List ℕ) (x : ℕ) → x ≡ 0 → Told points x false
+zero-told points x z = record { new = λ t. absurd (true≢false (sym t)); old = λ f. inl z }
+
+pub listed-told : (points : List ℕ) (x : ℕ) (b : Bool) → (x ≡ 0 → ⊥) → Listed points x b → Told points x (not b)
+listed-told points x true some l = record { new = λ t. absurd (true≢false (sym t)); old = λ f. inr (l .found refl) }
+listed-told points x false some l = record { new = λ t. (some, l .missing refl); old = λ f. absurd (true≢false f) }
+
+-- the largest of the points
+pub at-most-more : (points : List ℕ) (n most most′ : ℕ) → most ≤ most′ → getD points n 0 ≤ most′ → AtMost most n points → AtMost most′ (n + 1) points
+at-most-more points n most most′ le here all i hi =
+    ⊎-elim (λ (e : i ≡ n). subst (λ (k : ℕ). getD points k 0 ≤ most′) (sym e) here) (λ ne. omega (arith, all i (omega (arith, ne)))) (eq-or i n)
+
+pub at-most-front : (points : List ℕ) (n most : ℕ) → n ≤ length points → AtMost most n points → AtMost most (length (take n points)) (take n points)
+at-most-front points n most h all i hi =
+    let lt : i < n = omega (arith, length-take-le n points h) in
+    subst (λ (v : ℕ). v ≤ most) (sym (getD-take n points i 0 lt)) (all i lt)
 
 -- ---- whether the points tell a polynomial
 

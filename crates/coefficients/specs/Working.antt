@@ -2,6 +2,7 @@
 use mathlib.Core.Path.{_≡_}
 use mathlib.Core.Bool.{Bool, true, false}
 use mathlib.Core.List.{List}
+use mathlib.Core.Logic.{_⊎_}
 use Prim.Native.Nat.{ℕ, suc, _+_, _*_, _≤_, _<_}
 use lib.Dec.{eqb}
 use lib.ListN.{length, getD}
@@ -25,6 +26,15 @@ Missing n points x = (i : ℕ) → i < n → getD points i 0 ≡ x → ⊥
 pub record Listed (points : List ℕ) (x : ℕ) (answer : Bool) : Type 0 where
   pub found : answer ≡ true → (i : ℕ) × (i < length points) × (getD points i 0 ≡ x)
   pub missing : answer ≡ false → Missing (length points) points x
+
+-- each of the first n points of the list is at most this
+abbrev pub AtMost : ℕ → ℕ → List ℕ → Type 0
+AtMost most n points = (i : ℕ) → i < n → getD points i 0 ≤ most
+
+-- whether x is not 00 and none of the points
+pub record Told (points : List ℕ) (x : ℕ) (answer : Bool) : Type 0 where
+  pub new : answer ≡ true → (x ≡ 0 → ⊥) × Missing (length points) points x
+  pub old : answer ≡ false → (x ≡ 0) ⊎ ((i : ℕ) × (i < length points) × (getD points i 0 ≡ x))
 
 -- ---- from values to coefficients
 

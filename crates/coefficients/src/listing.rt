@@ -1,24 +1,48 @@
 // Questions about lists of points.
+ghost use Prim.Native.Nat.{_≤_};
+ghost use lib.ListN.{length};
 ghost use Rattle.interpolation.specs.Polynomial.{Points};
 ghost use Rattle.kernels.specs.Blocks.{Decided};
-ghost use Rattle.coefficients.specs.Working.{Listed};
+ghost use Rattle.coefficients.specs.Working.{Listed, AtMost, Told};
 
-// Whether the points tell a polynomial: none is 00, and no two are equal.
+// Whether the points tell a polynomial: none is 00, and no two are equal. `most` is the largest point so far, so that a rising list takes a comparison a point.
 pub(crate) fn different(points: &[u8]) -> bool
     ensures { λ r. ⌜ Decided (Points (now (points .entry))) r ⌝ }
 {
+    let mut most = 0u8;
     let mut i = 0;
     while i < points.len() {
         let x = points[i];
-        if x == 0 {
+        if !is_new(&points[..i], most, x) {
             return false;
         }
-        if lists(&points[..i], x) {
-            return false;
-        }
+        most = larger(most, x);
         i += 1;
     }
     true
+}
+
+// Whether x is not 00 and none of the points, which are at most `most`: where it exceeds that, they need not be looked at.
+fn is_new(points: &[u8], most: u8, x: u8) -> bool
+    requires { ⌜ AtMost most (length (now points)) (now points) ⌝ }
+    ensures { λ r. ⌜ Told (now (points .entry)) x r ⌝ }
+{
+    if most < x {
+        return true;
+    }
+    if x == 0 {
+        return false;
+    }
+    !lists(points, x)
+}
+
+fn larger(x: u8, y: u8) -> u8
+    ensures { λ r. ⌜ (x ≤ r) × (y ≤ r) ⌝ }
+{
+    if x < y {
+        return y;
+    }
+    x
 }
 
 // Whether x is one of these.

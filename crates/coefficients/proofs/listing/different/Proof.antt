@@ -1,40 +1,48 @@
--- After i turns none of the first i points is 00, and none of them is listed before. Assumes nothing.
+-- After i turns none of the first i points is 00, none of them is listed before, and none exceeds `most`. Assumes nothing.
 use mathlib.Core.Path.{sym}
+use mathlib.Core.Logic.{⊎-elim}
 use Prim.Native.Nat.{_-_, _≤_}
 use native.Mathlib.Omega.{arith}
 use borrow.Author.Needs.{needs}
+use borrow.Author.Tests.{not-true, not-false}
 use denote.Ref.{now}
 use lib.ListN.{length}
 use lib.Seq.{length-take-le}
-use Rattle.coefficients.proofs.Distinct.{Apart, apart-start, apart-next, zero-found, twice-found, apart-told}
+use Rattle.coefficients.specs.Working.{AtMost}
+use Rattle.coefficients.proofs.Distinct.{at-most-more, at-most-front, Apart, apart-start, apart-next, zero-found, twice-found, apart-told}
 use Rattle.coefficients.proofs.listing.different.Statement.{statement}
 use Rattle.coefficients.proofs.listing.different.Tie as tie
 
 abbrev Inv-loop : tie.InvT-loop
-Inv-loop points i₀ i = (i ≤ length points) × Apart i points
+Inv-loop points most₀ i₀ most i = (i ≤ length points) × Apart i points × AtMost most i points
 
 abbrev μ-loop : tie.MeasureT-loop
-μ-loop points i₀ i = length points - i
+μ-loop points most₀ i₀ most i = length points - i
 
 loop-holds : tie.Need-loop-holds Inv-loop μ-loop
-loop-holds c = (omega arith, apart-start _)
+loop-holds c = (omega arith, apart-start _, λ i h. absurd (omega arith))
 
 shared-slice-read-x : tie.Need-shared-slice-read-x Inv-loop μ-loop
 shared-slice-read-x c = search needs
 
+slice-aggregate-is-new : tie.Need-slice-aggregate-is-new Inv-loop μ-loop
+slice-aggregate-is-new c = sym (length-take-le _ (now (c .before .before .before .before .before .args .points)) (c .before .before .before .loop .inv .0))
+
+is-new-requires : tie.Need-is-new-requires Inv-loop μ-loop
+is-new-requires c κs =
+    let l = c .before .before .before .loop in
+    at-most-front (now (c .before .before .before .before .before .args .points)) (l .i) (l .most) (l .inv .0) (l .inv .2)
+
 returns : tie.Need-returns Inv-loop μ-loop
-returns c = zero-found (now (c .before .before .before .before .before .args .points)) (c .before .before .before .loop .i) (omega arith) (c .if1 .taken)
+returns c =
+    let n = c .before in
+    let l = n .before .before .before .before .loop in
+    let points = now (n .before .before .before .before .before .before .args .points) in
+    ⊎-elim (zero-found points (l .i) (omega arith)) (λ f. twice-found points (l .i) (omega arith) (f .0) (f .1) (f .2))
+    (n .is-new .ensures .old (not-true _ (c .if1 .taken)))
 
-slice-aggregate-lists : tie.Need-slice-aggregate-lists Inv-loop μ-loop
-slice-aggregate-lists c = sym (length-take-le _ (now (c .before .before .before .before .before .before .args .points)) (c .before .before .before .before .loop .inv .0))
-
-lists-requires : tie.Need-lists-requires Inv-loop μ-loop
-lists-requires c κs = search needs
-
-returns-2 : tie.Need-returns-2 Inv-loop μ-loop
-returns-2 c =
-    let f = c .before .lists .ensures .found (c .if2 .taken) in
-    twice-found (now (c .before .before .before .before .before .before .before .before .args .points)) (c .before .before .before .before .before .before .loop .i) (omega arith) (f .0) (f .1) (f .2)
+larger-requires : tie.Need-larger-requires Inv-loop μ-loop
+larger-requires c κs = search needs
 
 add-i : tie.Need-add-i Inv-loop μ-loop
 add-i c = search needs
@@ -44,12 +52,17 @@ loop-less c = search needs
 
 loop-again : tie.Need-loop-again Inv-loop μ-loop
 loop-again c =
-    let l = c .before .before .before .before .before .before .loop in
-    let points = now (c .before .before .before .before .before .before .before .before .args .points) in
-    (omega arith, apart-next points (l .i) (omega arith) (c .before .before .before .if1 .left) (c .before .lists .ensures .missing (c .if2 .left)) (l .inv .1))
+    let n = c .before .before in
+    let l = n .before .before .before .before .loop in
+    let points = now (n .before .before .before .before .before .before .args .points) in
+    let new = n .is-new .ensures .new (not-false _ (c .before .if1 .left)) in (
+      omega arith,
+      apart-next points (l .i) (omega arith) (new .0) (new .1) (l .inv .1),
+      at-most-more points (l .i) (l .most) (c .larger .result) (c .larger .ensures .0) (c .larger .ensures .1) (l .inv .2),
+    )
 
-returns-3 : tie.Need-returns-3 Inv-loop μ-loop
-returns-3 c =
+returns-2 : tie.Need-returns-2 Inv-loop μ-loop
+returns-2 c =
     apart-told (now (c .before .before .before .args .points)) (c .before .loop .i) (omega arith) (λ i. omega (arith, c .before .before .shared-slice-known .given i)) (c .before .loop .inv .1)
 
 pub different-spec : {M : Type 1} → statement M
@@ -60,11 +73,11 @@ different-spec =
     μ-loop
     loop-holds
     shared-slice-read-x
+    slice-aggregate-is-new
+    is-new-requires
     returns
-    slice-aggregate-lists
-    lists-requires
-    returns-2
+    larger-requires
     add-i
     loop-less
     loop-again
-    returns-3)
+    returns-2)
