@@ -22,6 +22,7 @@ use Rattle.params.specs.declared.Params.{Params}
 use Rattle.params.proofs.Sets.{length-nodes, rank-lt, node-at-rank, entry, distinct, count-not, count-range, within-size}
 use Rattle.gates.proofs.Valid.{working-is, working-le, slack-add}
 use Rattle.code.specs.Code.{point, Parts, block, Gives, upTo}
+use Rattle.code.specs.Slacks.{Slack}
 use Rattle.code.specs.Calls.{Vanishes}
 
 -- ---- the nodes that pass a test, as points
@@ -51,11 +52,6 @@ valid-points : (a : Params) (S : ℕ → Bool) → Valid a → Points (nodes S (
 valid-points a S ok = nodes-points S (a .n) (omega (arith, ok .shape .n-high))
 
 -- ---- a slack beside a given message
-
--- v is a slack with which x's blocks are as wanted at the nodes of 1..n outside W
-pub record Slack (a : Params) (x : List ℕ) (W : ℕ → Bool) (wanted : ℕ → ℕ → ℕ) (v : List ℕ) : Type 0 where
-  pub parts : Parts (a .b) (slackParts a) v
-  pub equal : (j p : ℕ) → j < a .n → W (suc j) ≡ false → p < a .b → block a x v (suc j) p ≡ wanted (suc j) p
 
 -- the nodes outside W
 abbrev pub free : (ℕ → Bool) → ℕ → Bool

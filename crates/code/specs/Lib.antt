@@ -1,3 +1,4 @@
 pub mod Code
 pub mod Points
 pub mod Calls
+pub mod Slacks

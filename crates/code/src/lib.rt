@@ -14,8 +14,8 @@ pub fn point(node: Node) -> Elem
     Elem(node.0)
 }
 
-// The points of the set's nodes, in rising order of the nodes, go to the front of out, which has 32 places; what stands behind them is as it was. Gives how many
-// they are. Where out has not 32 places, nothing is written, and the answer is 0.
+// The points of the set's nodes, in rising order of the nodes, go to the front of out, which has 32 places; what stands behind them is as it was. The answer
+// is how many they are. Where out has not 32 places, nothing is written, and the answer is 0.
 pub fn points_of(set: NodeSet, out: &mut [u8]) -> usize
     ensures { λ r. ⌜ Pointing (set .0) (now (out .entry)) r (now (out .exit)) ⌝ }
 {

@@ -1,4 +1,4 @@
--- Whether a list has a point, and whether its points tell a polynomial: each point exceeds those before it, or is compared with them. Assumes nothing.
+-- Whether a list has a point, and whether its points are different and none of them 00: each point exceeds those before it, or is compared with them. Assumes nothing.
 use mathlib.Core.Path.{_≡_, refl, sym, ap, _∙_, subst}
 use mathlib.Core.Bool.{Bool, true, false, not, true≢false}
 use mathlib.Core.List.{List}
@@ -49,7 +49,7 @@ at-most-front points n most h all i hi =
     let lt : i < n = omega (arith, length-take-le n points h) in
     subst (λ (v : ℕ). v ≤ most) (sym (getD-take n points i 0 lt)) (all i lt)
 
--- ---- whether the points tell a polynomial
+-- ---- whether the points are different and none of them 00
 
 -- none of the first n points is 00, and none of them is listed before
 pub record Apart (n : ℕ) (points : List ℕ) : Type 0 where

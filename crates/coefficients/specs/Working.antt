@@ -65,7 +65,7 @@ pub record BasisPut (count : ℕ) (points : List ℕ) (i : ℕ) (old new : List 
   pub put : (j : ℕ) → j < count → cell (length points) new j i ≡ basis points i j
   pub kept : (j k : ℕ) → k < length points → (k ≡ i → ⊥) → cell (length points) new j k ≡ cell (length points) old j k
 
--- what this asks: at most 32 points that tell a polynomial, and room for count coefficients of each basis polynomial, at least one and no more than there are
+-- what this asks: at most 32 points, different and none of them 00, and room for count coefficients of each basis polynomial, at least one and no more than there are
 -- points
 pub record Columned (count : ℕ) (points rows : List ℕ) : Type 0 where
   pub some : 0 < count
@@ -80,7 +80,7 @@ pub record Columned (count : ℕ) (points rows : List ℕ) : Type 0 where
 abbrev pub remaining : ℕ → ℕ → (ℕ → ℕ) → ℕ → ℕ
 remaining e m v c = sum m (λ j. mul (v j) (pow c (e + suc j)))
 
--- what it asks: at most 32 points that tell a polynomial, and at most 32 leading coefficients
+-- what it asks: at most 32 points, different and none of them 00, and at most 32 leading coefficients
 pub record Weighable (e : ℕ) (at : List ℕ) : Type 0 where
   pub e-most : e ≤ 32
   pub most : length at ≤ 32

@@ -16,8 +16,8 @@ ghost use Rattle.interpolation.specs.Polynomial.{Points};
 ghost use Rattle.coefficients.specs.Coefficients.{Extends, Roomy};
 ghost use Rattle.coefficients.specs.Working.{same, unitRow, basisValues, basisValueRows, Missing, Weighed, Weighable, Findable, Carries, Carriable, withPowers, withShare, Shared, Sharable};
 
-// leading and gains := the rows that take leading coefficients, and values at the points of `at`, to values at the targets. The gains take whole values to the
-// targets, with what the leading coefficients give in them; adding that share to leading takes it off.
+// leading and gains := the rows that take leading coefficients, and values at the points of `at`, to values at the targets. A value at a
+// point of `at` has the leading coefficients' share in it, which the gains carry to the targets too, where it does not belong. So leading subtracts it, which in this field is adding it.
 pub(crate) fn complete(
     logs: &[u8],
     exps: &[u8],

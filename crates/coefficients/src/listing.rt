@@ -5,7 +5,8 @@ ghost use Rattle.interpolation.specs.Polynomial.{Points};
 ghost use Rattle.kernels.specs.Blocks.{Decided};
 ghost use Rattle.coefficients.specs.Working.{Listed, AtMost, Told};
 
-// Whether the points tell a polynomial: none is 00, and no two are equal. `most` is the largest point so far, so that a rising list takes a comparison a point.
+// Whether the points are different and none of them 00, so that values there settle a polynomial. `most` is the largest point so far: a rising list takes one
+// comparison a point.
 pub(crate) fn different(points: &[u8]) -> bool
     ensures { λ r. ⌜ Decided (Points (now (points .entry))) r ⌝ }
 {

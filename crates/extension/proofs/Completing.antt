@@ -41,7 +41,7 @@ module _ (b e at targets q rows : ℕ) (places order message z old : List ℕ) (
         to-count = placed-length targets word′ places told rows hr ∙ hr;
         target = λ t ht.
             omega
-            (arith, ok .inside _ (node-of targets word′ places told rows hr t (omega (arith, placed-length targets word′ places told rows hr)) .0), suc-mul (getD (take rows places) t 0) b);
+            (arith, ok .inside .1 _ (node-of targets word′ places told rows hr t (omega (arith, placed-length targets word′ places told rows hr)) .0), suc-mul (getD (take rows places) t 0) b);
       }
 
   pub completed : (mid new : List ℕ) → ClearPost b targets old mid → Extended b e at targets message z (take q order) (take rows places) mid new

@@ -22,7 +22,7 @@ pub record Recomputable (a : Params) (from targets codeword fresh : ℕ) : Type 
   pub codeword-length : codeword ≡ a .n * a .b
   pub room : fresh ≡ size targets * a .b
 
--- new has the targets' blocks of the pair that gives R's blocks; that of node suc j stands at its rank. Where the lengths do not fit, nothing is written.
+-- new has the targets' blocks of the pair that gives R's blocks; that of node suc j stands at its rank. Where what it asks does not hold, nothing is written.
 pub record RecomputePost (a : Params) (from targets : ℕ) (codeword old new : List ℕ) : Type 0 where
   pub same : length new ≡ length old
   pub written : Recomputable a from targets (length codeword) (length old) → (x v : List ℕ) → Gives a x v (has from) codeword
@@ -39,7 +39,7 @@ pub record CompleteAsks (b e at targets message z out : ℕ) : Type 0 where
   pub inside : BlocksIn b targets out
 
 -- At each byte place: whichever polynomial has message's parts for its e leading coefficients, and z's blocks for its values at the nodes of `at`, in rising
--- order, has the targets' blocks of new for its values at the targets. The others are as they were. Where the lengths do not fit, nothing is written.
+-- order, has the targets' blocks of new for its values at the targets. The others are as they were. Where what it asks does not hold, nothing is written.
 pub record CompletePost (b e at targets : ℕ) (message z old new : List ℕ) : Type 0 where
   pub same : length new ≡ length old
   pub written : CompleteAsks b e at targets (length message) (length z) (length old) → (p : ℕ) (v : ℕ → ℕ) → p < b → ((j : ℕ) → IsByte (v j))

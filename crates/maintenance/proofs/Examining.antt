@@ -78,7 +78,8 @@ module _ (a : Params) (codeword : List ℕ) (ok : Checkable a (length codeword))
     puts : Puttable (a .b) rest (length codeword) (length fresh)
     puts =
         record {
-          inside = λ j e. row-ends (a .n) j (a .b) (length codeword) (outside-le (a .n) s rest (ok .n-high) others (suc j) e) (omega (arith, ok .codeword-length));
+          inside =
+              (ok .b-low, λ j e. row-ends (a .n) j (a .b) (length codeword) (outside-le (a .n) s rest (ok .n-high) others (suc j) e) (omega (arith, ok .codeword-length)));
           room = again .same ∙ room;
         }
 
@@ -135,6 +136,7 @@ checkable a codeword ok =
       first-le-n = working-le a (ok .valid);
       n-high = ok .valid .shape .n-high;
       codeword-length = ok .codeword-length;
+      b-low = ok .valid .b-low;
       b-high = ok .valid .b-high;
     }
 

@@ -35,7 +35,7 @@ module _ (a : Params) (from lost : ℕ) (old : List ℕ) (ok : Rebuildable a fro
       puts : Puttable (a .b) lost (length old) (length fresh)
       puts =
           record {
-            inside = λ j e. row-ends (a .n) j (a .b) (length old) (ok .lost-inside (suc j) e) (omega (arith, ok .codeword-length));
+            inside = (ok .b-low, λ j e. row-ends (a .n) j (a .b) (length old) (ok .lost-inside (suc j) e) (omega (arith, ok .codeword-length)));
             room = found .same ∙ room;
           }
 
@@ -49,6 +49,7 @@ module _ (a : Params) (from lost : ℕ) (word : from < 2 ^ 32) (word′ : lost <
         from-inside = within-has (a .n) from word .0 (ok .from-within);
         lost-inside = within-has (a .n) lost word′ .0 (ok .lost-within);
         codeword-length = ok .codeword-length;
+        b-low = ok .valid .b-low;
         b-high = ok .valid .b-high;
       }
 

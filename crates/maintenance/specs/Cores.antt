@@ -18,6 +18,7 @@ pub record Rebuildable (a : Params) (from lost codeword : ℕ) : Type 0 where
   pub from-inside : (i : ℕ) → has from i ≡ true → i ≤ a .n
   pub lost-inside : (i : ℕ) → has lost i ≡ true → i ≤ a .n
   pub codeword-length : codeword ≡ a .n * a .b
+  pub b-low : 1 ≤ a .b
   pub b-high : a .b ≤ 1024
 
 -- L's blocks are those of the pair that gives R's, the others as they were
@@ -32,6 +33,7 @@ pub record Checkable (a : Params) (codeword : ℕ) : Type 0 where
   pub first-le-n : working a ≤ a .n
   pub n-high : a .n ≤ 32
   pub codeword-length : codeword ≡ a .n * a .b
+  pub b-low : 1 ≤ a .b
   pub b-high : a .b ≤ 1024
 
 -- The answer is no refusal. It names the lowest node whose block is not that of the pair that gives the first nodes' blocks, or none.

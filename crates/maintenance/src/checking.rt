@@ -23,7 +23,7 @@ pub fn check(a: Params, codeword: &[u8]) -> Verdict
 }
 
 // Makes room for the blocks of the nodes behind the first ones, no more than is wanted, since room is cleared at each call. The function for rooms over 128 bytes
-// is called at two places, as in `repair_blocks`.
+// is called at two places as in `repair_blocks`, but here the compiler makes it part of the call all the same.
 fn check_blocks(a: Params, codeword: &[u8]) -> Verdict
     requires { ⌜ Checkable a (length (now codeword)) ⌝ }
     ensures { λ r. ⌜ Examined a (now (codeword .entry)) r ⌝ }

@@ -1,5 +1,5 @@
-// The small matrices of coefficients for nodes: here a node becomes a point, and nowhere else. Each function lists the points of its nodes, in rising order of the
-// nodes, and hands the lists on to crate coefficients, which knows of points alone.
+// The small matrices of coefficients for nodes. Each function lists the points of its nodes, in rising order of the nodes (those of a set by `code::points_of`), and
+// hands the lists on to crate coefficients, which knows of points alone. No crate above turns a node into a point.
 use code::point;
 use code::points_of;
 use coefficients::completion_rows;

@@ -21,7 +21,7 @@ use Rattle.placing.proofs.Ranks.{rank-inside, same-rank, Listed, nodeAt
 -- the node of turn i, whose place is w: its block ends within the codeword, and block i within fresh
 module _ (set number : ℕ) (places : List ℕ) (g : Listed set number places) (i w : ℕ) (turn : i < number) (place : w ≡ getD places i 0) (b : ℕ) where
   pub block-ends : (codeword : ℕ) → BlocksIn b set codeword → w * b + b ≤ codeword
-  block-ends codeword h = h w (nodeAt set number places g i w turn place .0)
+  block-ends codeword h = h .1 w (nodeAt set number places g i w turn place .0)
 
   pub fresh-ends : (fresh : ℕ) → fresh ≡ size set * b → i * b + b ≤ fresh
   fresh-ends fresh h = row-ends (size set) i b fresh (omega (arith, g .count-is)) (omega arith)

@@ -7,9 +7,9 @@ use lib.ListN.{length}
 use Rattle.base.specs.Seq.{cell}
 use Rattle.params.specs.Nodes.{has, size, count}
 
--- a list of that length has the block of each of the set's nodes
+-- blocks are not empty, and a list of that length has the block of each of the set's nodes
 abbrev pub BlocksIn : ℕ → ℕ → ℕ → Type 0
-BlocksIn b set length = (j : ℕ) → has set (suc j) ≡ true → j * b + b ≤ length
+BlocksIn b set length = (0 < b) × ((j : ℕ) → has set (suc j) ≡ true → j * b + b ≤ length)
 
 -- whether a list of that length has these blocks, as a test
 pub record HasBlocks (b set length : ℕ) (answer : Bool) : Type 0 where

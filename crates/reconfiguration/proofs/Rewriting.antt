@@ -89,7 +89,7 @@ module _ (a : Params) (t : Shape) (from to rest kept made : ℕ) (codeword messa
         most = ok .new-k-high;
         parts = ok .message-length;
         values = again .same ∙ room;
-        inside = λ j e. row-ends (t .n) j (a .b) (length mid) (outside-le (t .n) kept made (ok .new-n-high) makes (suc j) e) (omega (arith, mid-length));
+        inside = (ok .b-low, λ j e. row-ends (t .n) j (a .b) (length mid) (outside-le (t .n) kept made (ok .new-n-high) makes (suc j) e) (omega (arith, mid-length)));
       }
 
   count-is : size rest ≡ slackParts (reshaped a t)
@@ -134,6 +134,7 @@ module _ (a : Params) (t : Shape) (from to : ℕ) (word : from < 2 ^ 32) where
         old-length = ok .old-length;
         new-length = ok .new-length;
         message-length = ok .message-length;
+        b-low = ok .valid .b-low;
         b-high = ok .valid .b-high;
       }
 

@@ -11,7 +11,7 @@ use Rattle.params.specs.declared.Params.{Params}
 use Rattle.params.specs.declared.Shape.{Shape}
 use Rattle.code.specs.Code.{block, Gives}
 use Rattle.code.specs.Calls.{writes}
-use Rattle.code.proofs.Pairs.{Slack}
+use Rattle.code.specs.Slacks.{Slack}
 
 -- R has as many nodes of 1..n as message and slack have parts, W' has w' nodes of 1..n', each buffer has just its blocks, and these are not too many and not too
 -- long
@@ -26,6 +26,7 @@ pub record Reconfigurable (a : Params) (t : Shape) (old new message from to : �
   pub old-length : old ≡ a .n * a .b
   pub new-length : new ≡ t .n * a .b
   pub message-length : message ≡ t .k * a .b
+  pub b-low : 1 ≤ a .b
   pub b-high : a .b ≤ 1024
 
 -- Where s is the slack with which the message x has the blocks of R's pair (y, v) outside W': blocks in W' and above n are those of (x, s). The others are the

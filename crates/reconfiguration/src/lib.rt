@@ -36,7 +36,7 @@ pub fn reconfigure(
 }
 
 // Makes room for the old pair's blocks outside W', no more than is wanted, since room is cleared at each call. The function for rooms over 128 bytes is called at
-// two places, as in `repair_blocks` of crate maintenance.
+// two places as in `repair_blocks` of crate maintenance, but here the compiler makes it part of the call all the same.
 fn reconfigure_blocks(
     a: Params,
     shape: Shape,

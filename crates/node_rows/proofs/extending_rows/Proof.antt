@@ -48,7 +48,8 @@ returns c =
     let w = r .before .before .before .before .before .before in
     let k = w .before .before .before in
     let s = k .before .before .before .before in
-    subst₂ (λ (at targets : List ℕ). ExtendsPost (s .args .e) at targets (now (s .args .leading)) (now (s .args .gains)) (r .completion-rows .last .1 .1 .1 .0) (r .completion-rows .last .1 .1 .1 .1 .0))
+    let new = r .completion-rows .last .1 .1 .1 in
+    subst₂ (λ (at targets : List ℕ). ExtendsPost (s .args .e) at targets (now (s .args .leading)) (now (s .args .gains)) (new .0) (new .1 .0))
     (points-front _ _ _ (k .points-of .ensures)) (points-front _ _ _ (w .points-of2 .ensures)) (r .completion-rows .ensures)
 
 pub extending-rows-spec : {M : Type 1} → statement M

@@ -1,4 +1,4 @@
--- Empty blocks are everywhere; of others the list has as many as the quotient of the lengths says. Assumes nothing.
+-- No block is empty; a list has as many as the quotient of the lengths says. Assumes nothing.
 use mathlib.Core.Path.{_≡_, refl, sym, _∙_}
 use mathlib.Core.Bool.{Bool, true, false, true≢false}
 use Prim.Native.Nat.{ℕ, zero, suc, _+_, _*_, _/_, _^_, _≤_, _<_}
@@ -11,19 +11,16 @@ use Rattle.placing.specs.Placed.{HasBlocks}
 use Rattle.placing.proofs.has_blocks.Statement.{statement}
 use Rattle.placing.proofs.has_blocks.Tie as tie
 
-empty : (b set length : ℕ) → b ≡ 0 → HasBlocks b set length true
-empty b set length e = record { yes-has = λ _ j _. omega (arith, small j); no-lacks = λ f _. true≢false f }
-  where
-    small : (j : ℕ) → j * b ≡ 0
-    small j = rw e (omega arith)
+empty : (b set length : ℕ) → b ≡ 0 → HasBlocks b set length false
+empty b set length e = record { yes-has = λ f. absurd (true≢false (sym f)); no-lacks = λ _ h. omega (arith, h .0) }
 
 told : (b set length : ℕ) (answer : Bool) → 0 < b → set < 2 ^ 32 → answer ≡ within (length / b) set → HasBlocks b set length answer
 told b set length answer some word is =
     record {
-      yes-has = λ e j hj.
-          omega (arith, le-div-iff-mul-le some .0 (within-has (length / b) set word .0 (sym is ∙ e) (suc j) hj), suc-mul j b);
+      yes-has = λ e.
+          (some, λ j hj. omega (arith, le-div-iff-mul-le some .0 (within-has (length / b) set word .0 (sym is ∙ e) (suc j) hj), suc-mul j b));
       no-lacks = λ e all.
-          true≢false (sym (is ∙ within-has (length / b) set word .1 (λ i hi. bound i hi all)) ∙ e);
+          true≢false (sym (is ∙ within-has (length / b) set word .1 (λ i hi. bound i hi (all .1))) ∙ e);
     }
   where
     bound : (i : ℕ) → has set i ≡ true → ((j : ℕ) → has set (suc j) ≡ true → j * b + b ≤ length) → i ≤ length / b
