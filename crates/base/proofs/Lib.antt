@@ -6,3 +6,4 @@ pub mod Filled
 pub mod Parts
 pub mod Buffers
 pub mod Questions
+pub mod Decisions

@@ -1,12 +1,12 @@
 -- The first no of a list of questions, by induction on the list; then the tests that questions are made of. Assumes nothing.
 use mathlib.Core.Path.{_≡_, refl, sym, ap, _∙_, subst}
 use mathlib.Core.Logic.{_⊎_, inl, inr}
-use mathlib.Core.Bool.{Bool, true, false, not, _&&_, true≢false}
+use mathlib.Core.Bool.{Bool, true, false, not, _&&_, true≢false, cond}
 use mathlib.Core.List.{List, [], _∷_, _++_, map, List·Memᴰ, List·Memᴰ·head, List·Memᴰ·tail, List·Memᴰ·cases-cons}
 use Prim.Native.Nat.{ℕ, _≤_}
 use lib.Dec.{T, leb, eqb}
 use borrow.Author.Tests.{leb-true, eqb-true, eqb-false}
-use Rattle.base.specs.Gate.{Question, ask, orElse, firstNo}
+use Rattle.base.specs.Gate.{Question, ask, firstNo}
 
 -- each answer is yes, and R besides
 abbrev pub YesAnd : List Question → Type 0 → Type 0
@@ -27,7 +27,7 @@ all-yes [] t e = tt
 all-yes (q ∷ qs) t e = go (q .answer) refl (eqb (q .number) 0) refl t (all-yes qs) e
   where
     go : (b : Bool) → q .answer ≡ b → (z : Bool) → eqb (q .number) 0 ≡ z → T (not z && numbered qs)
-        → (T (numbered qs) → firstNo qs ≡ 0 → AllYes qs) → orElse b (firstNo qs) (q .number) ≡ 0 → (q .answer ≡ true) × AllYes qs
+        → (T (numbered qs) → firstNo qs ≡ 0 → AllYes qs) → cond b (firstNo qs) (q .number) ≡ 0 → (q .answer ≡ true) × AllYes qs
     go b a true n t rest e = absurd t
     go true a false n t rest e = (a, rest t e)
     go false a false n t rest e = absurd (eqb-false (q .number) 0 n e)
@@ -35,7 +35,7 @@ all-yes (q ∷ qs) t e = go (q .answer) refl (eqb (q .number) 0) refl t (all-yes
 pub first-zero : (qs : List Question) → AllYes qs → firstNo qs ≡ 0
 unfolding firstNo
 first-zero [] y = refl
-first-zero (q ∷ qs) y = ap (λ (b : Bool). orElse b (firstNo qs) (q .number)) (y .0) ∙ first-zero qs (y .1)
+first-zero (q ∷ qs) y = ap (λ (b : Bool). cond b (firstNo qs) (q .number)) (y .0) ∙ first-zero qs (y .1)
 
 -- the number is 0, or that of a question
 pub among : (qs : List Question) → List·Memᴰ (firstNo qs) (0 ∷ map (λ (q : Question). q .number) qs)
@@ -44,7 +44,7 @@ among [] = List·Memᴰ·head refl
 among (q ∷ qs) = go (q .answer) (List·Memᴰ·cases-cons (among qs))
   where
     go : (b : Bool) → (firstNo qs ≡ 0) ⊎ List·Memᴰ (firstNo qs) (map (λ (q : Question). q .number) qs)
-        → List·Memᴰ (orElse b (firstNo qs) (q .number)) (0 ∷ q .number ∷ map (λ (q : Question). q .number) qs)
+        → List·Memᴰ (cond b (firstNo qs) (q .number)) (0 ∷ q .number ∷ map (λ (q : Question). q .number) qs)
     go true (inl e) = List·Memᴰ·head e
     go true (inr m) = List·Memᴰ·tail (List·Memᴰ·tail m)
     go false m = List·Memᴰ·tail (List·Memᴰ·head refl)
@@ -59,8 +59,8 @@ pub data First : List Question → ℕ → Type 0 where
 pub first : (qs : List Question) {m : ℕ} → First qs m → m ≡ firstNo qs
 unfolding firstNo
 first [] over = refl
-first (q ∷ qs) (nay e) = sym (ap (λ (b : Bool). orElse b (firstNo qs) (q .number)) e)
-first (q ∷ qs) (yea e f) = first qs f ∙ sym (ap (λ (b : Bool). orElse b (firstNo qs) (q .number)) e)
+first (q ∷ qs) (nay e) = sym (ap (λ (b : Bool). cond b (firstNo qs) (q .number)) e)
+first (q ∷ qs) (yea e f) = first qs f ∙ sym (ap (λ (b : Bool). cond b (firstNo qs) (q .number)) e)
 
 -- what another gate has found of these questions
 pub known : (qs : List Question) {g : ℕ} → g ≡ firstNo qs → First qs g
@@ -68,7 +68,7 @@ unfolding firstNo
 known [] e = subst (First []) (sym e) over
 known (q ∷ qs) {g} e = go (q .answer) refl (λ h. known qs h) e
   where
-    go : (b : Bool) → q .answer ≡ b → (g ≡ firstNo qs → First qs g) → g ≡ orElse b (firstNo qs) (q .number) → First (q ∷ qs) g
+    go : (b : Bool) → q .answer ≡ b → (g ≡ firstNo qs → First qs g) → g ≡ cond b (firstNo qs) (q .number) → First (q ∷ qs) g
     go true a rest e = yea a (rest e)
     go false a rest e = subst (First (q ∷ qs)) (sym e) (nay a)
 
@@ -92,11 +92,11 @@ past qs {rest} {g} {m} t e z h = go qs (all-yes qs t (sym e ∙ z))
     go (q ∷ qs) y = yea (y .0) (go qs (y .1))
 
 -- two lists of questions, one after the other
-pub in-turn : (qs rest : List Question) {m : ℕ} (g h : ℕ) → T (numbered qs) → g ≡ firstNo qs → h ≡ firstNo rest → m ≡ orElse (eqb g 0) h g
+pub in-turn : (qs rest : List Question) {m : ℕ} (g h : ℕ) → T (numbered qs) → g ≡ firstNo qs → h ≡ firstNo rest → m ≡ cond (eqb g 0) h g
     → m ≡ firstNo (qs ++ rest)
 in-turn qs rest {m} g h t e f n = go (eqb g 0) refl n
   where
-    go : (b : Bool) → eqb g 0 ≡ b → m ≡ orElse b h g → m ≡ firstNo (qs ++ rest)
+    go : (b : Bool) → eqb g 0 ≡ b → m ≡ cond b h g → m ≡ firstNo (qs ++ rest)
     go true z n = n ∙ first (qs ++ rest) (past qs t e (eqb-true g 0 z) (known rest f))
     go false z n = n ∙ first (qs ++ rest) (stopped qs rest e (eqb-false g 0 z))
 

@@ -1,5 +1,5 @@
 -- "Questions at the gate" (document 01), as data. Assumes nothing.
-use mathlib.Core.Bool.{Bool, true, false}
+use mathlib.Core.Bool.{Bool, cond}
 use mathlib.Core.List.{List, [], _∷_}
 use Prim.Native.Nat.{ℕ}
 
@@ -11,12 +11,7 @@ pub record Question : Type 0 where
 abbrev pub ask : Bool → ℕ → Question
 ask b n = record { answer = b; number = n }
 
--- the first number where the answer is yes, the second where it is no
-abbrev pub orElse : Bool → ℕ → ℕ → ℕ
-orElse true m n = m
-orElse false m n = n
-
 -- "The order is that of the list below; the first no is the answer. All yes: answer 0."
 unfoldable pub firstNo : List Question → ℕ
 firstNo [] = 0
-firstNo (q ∷ qs) = orElse (q .answer) (firstNo qs) (q .number)
+firstNo (q ∷ qs) = cond (q .answer) (firstNo qs) (q .number)

@@ -1,3 +1,4 @@
+pub mod Decided
 pub mod Gate
 pub mod Seq
 pub mod Parts

@@ -10,7 +10,7 @@ use lib.Seq.{getD-take, length-take-le}
 use Rattle.base.proofs.Cases.{lt-or, eq-or}
 use Rattle.field.specs.Field.{Bytes}
 use Rattle.interpolation.specs.Polynomial.{Points}
-use Rattle.kernels.specs.Blocks.{Decided}
+use Rattle.base.specs.Decided.{Decided}
 use Rattle.coefficients.specs.Working.{Missing, Listed, AtMost, Told}
 
 -- ---- whether x is one of the points

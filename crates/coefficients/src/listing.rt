@@ -2,7 +2,7 @@
 ghost use Prim.Native.Nat.{_≤_};
 ghost use lib.ListN.{length};
 ghost use Rattle.interpolation.specs.Polynomial.{Points};
-ghost use Rattle.kernels.specs.Blocks.{Decided};
+ghost use Rattle.base.specs.Decided.{Decided};
 ghost use Rattle.coefficients.specs.Working.{Listed, AtMost, Told};
 
 // Whether the points are different and none of them 00, so that values there settle a polynomial. `most` is the largest point so far: a rising list takes one

@@ -5,11 +5,11 @@ use params::NodeSet;
 use params::Params;
 use params::Shape;
 ghost use mathlib.Core.Path.{_≡_};
-ghost use mathlib.Core.Bool.{_&&_};
+ghost use mathlib.Core.Bool.{_&&_, cond};
 ghost use mathlib.Core.List.{[], _∷_, _++_};
 ghost use Prim.Native.Nat.{_*_, _≤_};
 ghost use lib.Dec.{eqb};
-ghost use Rattle.base.specs.Gate.{orElse, firstNo};
+ghost use Rattle.base.specs.Gate.{firstNo};
 ghost use Rattle.params.specs.Nodes.{size, within};
 ghost use Rattle.gates.specs.Gates.{shapeAsked, paramsAsked, lengthsAsked, namesAsked, sizesAsked, freeAsked};
 ghost use Rattle.gates.specs.Gates.{encodeGate, checkGate, decodeGate, deltaGate, updateGate, repairGate, viewGate, reconfigureGate, damageGate};
@@ -17,7 +17,7 @@ ghost use Rattle.gates.specs.Valid.{Valid};
 
 // Of two gates' numbers, the first that is not 0, if any: the first no where the questions of one gate are put before those of the other.
 fn first_no(before: u32, after: u32) -> u32
-    ensures { λ r. ⌜ r ≡ orElse (eqb before 0) after before ⌝ }
+    ensures { λ r. ⌜ r ≡ cond (eqb before 0) after before ⌝ }
 {
     if before != 0 {
         return before;

@@ -1,6 +1,6 @@
 -- Each answer of the tests on lengths decides what it is to decide: a quotient takes the place of a product that could overflow. Assumes nothing.
-use mathlib.Core.Path.{_≡_, sym, ap, _∙_}
-use mathlib.Core.Bool.{Bool, true, false, true≢false}
+use mathlib.Core.Path.{_≡_, ap, _∙_}
+use mathlib.Core.Bool.{Bool, true, false}
 use mathlib.Core.List.{List}
 use Prim.Native.Nat.{ℕ, _-_, _*_, _/_, _≤_, _<_}
 use native.Mathlib.Nat.{mul-zero, mul-le-mul-right, le-div-iff-mul-le}
@@ -8,13 +8,9 @@ use native.Mathlib.Omega.{arith}
 use borrow.Author.Tests.{leb-true, leb-false}
 use lib.Dec.{leb}
 use lib.ListN.{length, getD}
-use Rattle.kernels.specs.Blocks.{Rows, Inside, Decided, Fits}
-
-decided-true : (P : Type 0) → P → Decided P true
-decided-true P h = record { holds = λ e. h; fails = λ e. absurd (true≢false e) }
-
-decided-false : (P : Type 0) → (P → ⊥) → Decided P false
-decided-false P h = record { holds = λ e. absurd (true≢false (sym e)); fails = λ e. h }
+use Rattle.base.specs.Decided.{Decided}
+use Rattle.base.proofs.Decisions.{decided-true, decided-false}
+use Rattle.kernels.specs.Blocks.{Rows, Inside, Fits}
 
 -- ---- rows of coefficients
 

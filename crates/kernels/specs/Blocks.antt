@@ -49,11 +49,6 @@ Rows rows width stride coeffs = (i : ℕ) → i < rows → i * stride + width �
 abbrev pub Inside : ℕ → List ℕ → ℕ → Type 0
 Inside b places src = (j : ℕ) → j < length places → suc (getD places j 0) * b ≤ src
 
--- whether P holds, as a test
-pub record Decided (P : Type 0) (answer : Bool) : Type 0 where
-  pub holds : answer ≡ true → P
-  pub fails : answer ≡ false → P → ⊥
-
 -- xs + c·ys, byte by byte
 unfoldable pub plusMultiple : List ℕ → ℕ → List ℕ → List ℕ
 plusMultiple xs c ys = tabulate (length xs) (λ p. add (getD xs p 0) (mul c (getD ys p 0)))

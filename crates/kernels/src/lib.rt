@@ -11,8 +11,9 @@ ghost use mathlib.Core.Path.{_≡_};
 ghost use mathlib.Core.Bool.{true, false};
 ghost use Prim.Native.Nat.{_≤_, _<_};
 ghost use lib.ListN.{length};
+ghost use Rattle.base.specs.Decided.{Decided};
 ghost use Rattle.kernels.specs.Blocks.{Fits, Added};
-ghost use Rattle.kernels.specs.Blocks.{Rows, Inside, Decided, plusMultiple, Accumulated};
+ghost use Rattle.kernels.specs.Blocks.{Rows, Inside, plusMultiple, Accumulated};
 
 // A matrix of coefficients times the blocks of src at the given places: row i of the product is added to block targets[i] of out. Blocks have b bytes, and row i of
 // the coefficients begins at i·stride. Where the product does not fit the slices, nothing is written.

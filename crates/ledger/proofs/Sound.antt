@@ -1,7 +1,7 @@
 -- One record and what is known of it: with some slack the ledger is a pair that gives the block of every undamaged node. Each call keeps this of the record that
 -- it leaves, by what its post-condition says of the blocks. Assumes nothing.
 use mathlib.Core.Path.{_≡_, refl, sym, ap₂, _∙_}
-use mathlib.Core.Bool.{Bool, true, false, not, _&&_, _||_, true≢false}
+use mathlib.Core.Bool.{Bool, true, false, not, _&&_, _||_, true≢false, cond}
 use mathlib.Core.List.{List}
 use Prim.Native.Nat.{ℕ, suc, _<_}
 use lib.Dec.{leb, ltb, eqb}
@@ -20,7 +20,7 @@ use Rattle.code.specs.Code.{Parts, block, Pair, Gives}
 use Rattle.code.specs.Calls.{Encoded, Updated, Repaired, Reconfigured}
 use Rattle.code.proofs.Pairs.{Reads, pair-blocks}
 use Rattle.code.proofs.Additivity.{plus, pair-plus, block-add}
-use Rattle.ledger.specs.Ledger.{chosen, damagedWord, ledgerPlus}
+use Rattle.ledger.specs.Ledger.{damagedWord, ledgerPlus}
 
 -- There is a slack with which the ledger gives the block of each undamaged node.
 pub record Sound (a : Params) (codeword ledger : List ℕ) (damaged : ℕ → Bool) : Type 0 where
@@ -65,7 +65,7 @@ module _ (a : Params) (codeword ledger : List ℕ) (damaged : ℕ → Bool) (i :
       }
     where
       go : (j p : ℕ) → j < a .n → p < a .b → (b c : Bool) → damaged (suc j) ≡ c → (c || b) ≡ false
-          → chosen b (getD bytes p 0) (cell (a .b) codeword j p) ≡ block a ledger (i .slack) (suc j) p
+          → cond b (getD bytes p 0) (cell (a .b) codeword j p) ≡ block a ledger (i .slack) (suc j) p
       go j p hj hp true true dc e = absurd (true≢false e)
       go j p hj hp true false dc e = absurd (true≢false e)
       go j p hj hp false true dc e = absurd (true≢false e)

@@ -2,7 +2,7 @@
 -- are met by exactly one result (the code's Determined.antt), and every byte that they write is a byte. Assumes nothing.
 use mathlib.Core.Path.{_≡_, refl, sym, ap, ap₂, _∙_, subst}
 use mathlib.Core.Logic.{⊎-elim}
-use mathlib.Core.Bool.{Bool, true, false}
+use mathlib.Core.Bool.{Bool, true, false, cond}
 use mathlib.Core.List.{List}
 use Prim.Native.Nat.{ℕ, zero, suc, _*_, _/_, _%_, _<_}
 use native.Mathlib.Nat.{div-add-mod', div-lt-iff-lt-mul, mod-lt}
@@ -26,7 +26,7 @@ use Rattle.code.specs.Calls.{Post, EncodePost, DecodePost, UpdatePost, RepairPo
 use Rattle.code.proofs.Additivity.{block-byte}
 use Rattle.code.proofs.Determined.{encode-met, encode-once, decode-met, delta-met, update-met, update-once, repair-met, repair-once, reconfigure-met, reconfigure-once, check-met, view-met}
 use Rattle.ledger.specs.Ledger.{Held, Machine, Lent, held, other, withCodeword, Given, encode, update, repair, reconfigure, decode, delta, check, view}
-use Rattle.ledger.specs.Ledger.{Event, call, damage, bytesLent, bytesLeft, lent, wrote, moved, chosen, damagedWord, damagedHeld, Step, encoded, updated}
+use Rattle.ledger.specs.Ledger.{Event, call, damage, bytesLent, bytesLeft, lent, wrote, moved, damagedWord, damagedHeld, Step, encoded, updated}
 use Rattle.ledger.specs.Ledger.{repaired, reconfigured, decoded, differed, checked, viewed, damaged, LentBytes, GivenBytes, Typed, Run, done, more}
 use Rattle.ledger.specs.Ledger.{History, Undamaged, Reading}
 
@@ -132,7 +132,7 @@ moved-whole h a t old from to x buffer zero new w ho post =
     }
 moved-whole h a t old from to x buffer (suc q) new w ho post = w
 
-chosen-byte : (b : Bool) (x y : ℕ) → IsByte x → IsByte y → IsByte (chosen b x y)
+chosen-byte : (b : Bool) (x y : ℕ) → IsByte x → IsByte y → IsByte (cond b x y)
 chosen-byte true x y hx hy = hx
 chosen-byte false x y hx hy = hy
 

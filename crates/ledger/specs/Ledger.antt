@@ -1,7 +1,7 @@
 -- "The ledger machine" (document 01): lists of calls and damage, what they do to the record, and what the machine keeps of them. The calls' own definitions
 -- and gates are those that the code's contracts cite. Assumes nothing.
 use mathlib.Core.Path.{_≡_}
-use mathlib.Core.Bool.{Bool, true, false, not, _&&_, _||_}
+use mathlib.Core.Bool.{Bool, true, false, not, _&&_, _||_, cond}
 use mathlib.Core.List.{List, [], _∷_}
 use Prim.Native.Nat.{ℕ, zero, suc, _<_, _^_}
 use lib.Dec.{leb, eqb}
@@ -115,13 +115,9 @@ abbrev pub moved : ℕ → Held → Params → Shape → List ℕ → Held
 moved zero h a t new = heldUnder (reshaped a t) (withCodeword new h)
 moved (suc q) h a t new = h
 
-abbrev pub chosen : Bool → ℕ → ℕ → ℕ
-chosen true x y = x
-chosen false x y = y
-
 -- "Damage to trap i replaces its block by given bytes": byte p of the block becomes byte p given (bytes that are not given are 00).
 unfoldable pub damagedWord : Params → List ℕ → ℕ → List ℕ → List ℕ
-damagedWord a codeword i bytes = blocks (a .b) (a .n) (λ j p. chosen (eqb (suc j) i) (getD bytes p 0) (cell (a .b) codeword j p))
+damagedWord a codeword i bytes = blocks (a .b) (a .n) (λ j p. cond (eqb (suc j) i) (getD bytes p 0) (cell (a .b) codeword j p))
 
 -- a damage event outside 1..n alters nothing
 abbrev pub damagedHeld : ℕ → Held → ℕ → List ℕ → Held

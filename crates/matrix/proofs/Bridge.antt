@@ -1,7 +1,7 @@
 -- From the working matrix to the matrix and its inverse: for z = x ++ y the start [m | 1] takes z to zero exactly where m takes x to y, and the end
 -- [1 | n] exactly where n takes y to x. A column without a pivot is the sum of those before it, each times what stands above the missing pivot. Assumes nothing.
 use mathlib.Core.Path.{_≡_, sym, ap, ap₂, _∙_, subst}
-use mathlib.Core.Bool.{Bool}
+use mathlib.Core.Bool.{Bool, cond}
 use mathlib.Core.List.{List, _++_}
 use mathlib.Core.Logic.{_↔_, ⊎-elim}
 use Prim.Native.Nat.{ℕ, _+_, _*_, _≤_, _<_}
@@ -12,7 +12,6 @@ use lib.Dec.{ltb}
 use lib.ListN.{length, getD, List·getD-append}
 use lib.Seq.{getD-append-add}
 use borrow.Author.Tests.{lt-ltb, le-ltb}
-use Rattle.base.specs.Gate.{orElse}
 use Rattle.base.specs.Seq.{tabulate}
 use Rattle.base.proofs.Cases.{lt-or}
 use Rattle.base.proofs.Seq.{getD-tabulate}
@@ -90,15 +89,15 @@ module _ (s : ℕ) (m start end n : List ℕ) (loaded : Loaded s m start) (reduc
 module _ (s j : ℕ) (m start end : List ℕ) (loaded : Loaded s m start) (stuck : StuckAt s j start end) (hm : Bytes m) where
   -- what stands above the missing pivot
   above : ℕ → ℕ
-  above k = orElse (ltb k j) (grid end k j) 0
+  above k = cond (ltb k j) (grid end k j) 0
 
   above-low : (k : ℕ) → k < j → above k ≡ grid end k j
   unfolding above
-  above-low k h = ap (λ (b : Bool). orElse b (grid end k j) 0) (lt-ltb k j h)
+  above-low k h = ap (λ (b : Bool). cond b (grid end k j) 0) (lt-ltb k j h)
 
   above-high : (k : ℕ) → j ≤ k → above k ≡ 0
   unfolding above
-  above-high k h = ap (λ (b : Bool). orElse b (grid end k j) 0) (le-ltb k j h)
+  above-high k h = ap (λ (b : Bool). cond b (grid end k j) 0) (le-ltb k j h)
 
   above-byte : (k : ℕ) → IsByte (above k)
   above-byte k =

@@ -1,11 +1,10 @@
 -- The identity's entries, and sums against them: one term is left. Assumes nothing.
 use mathlib.Core.Path.{_≡_, refl, sym, ap, _∙_}
-use mathlib.Core.Bool.{Bool, true, false}
+use mathlib.Core.Bool.{Bool, true, false, cond}
 use Prim.Native.Nat.{ℕ, _<_}
 use native.Mathlib.Omega.{arith}
 use lib.Dec.{eqb}
 use borrow.Author.Tests.{eq-eqb, ne-eqb}
-use Rattle.base.specs.Gate.{orElse}
 use Rattle.field.specs.Field.{IsByte, mul}
 use Rattle.field.specs.FiniteSum.{sum}
 use Rattle.field.proofs.Multiplication.{mul-zero-left, mul-zero-right, mul-one-left, mul-one-right}
@@ -14,17 +13,17 @@ use Rattle.matrix.specs.Product.{unit}
 
 pub unit-same : (i : ℕ) → unit i i ≡ 1
 unfolding unit
-unit-same i = ap (λ (b : Bool). orElse b 1 0) (eq-eqb i i refl)
+unit-same i = ap (λ (b : Bool). cond b 1 0) (eq-eqb i i refl)
 
 pub unit-other : (i j : ℕ) → (i ≡ j → ⊥) → unit i j ≡ 0
 unfolding unit
-unit-other i j ne = ap (λ (b : Bool). orElse b 1 0) (ne-eqb i j ne)
+unit-other i j ne = ap (λ (b : Bool). cond b 1 0) (ne-eqb i j ne)
 
 pub unit-byte : (i j : ℕ) → IsByte (unit i j)
 unfolding unit
 unit-byte i j = go (eqb i j)
   where
-    go : (b : Bool) → IsByte (orElse b 1 0)
+    go : (b : Bool) → IsByte (cond b 1 0)
     go true = omega arith
     go false = omega arith
 

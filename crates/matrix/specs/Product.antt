@@ -1,9 +1,9 @@
 -- The product of two square matrices, the identity, and the sum of two vectors, by their entries. Assumes nothing.
 use mathlib.Core.List.{List}
+use mathlib.Core.Bool.{cond}
 use Prim.Native.Nat.{ℕ}
 use lib.Dec.{eqb}
 use lib.ListN.{getD}
-use Rattle.base.specs.Gate.{orElse}
 use Rattle.base.specs.Seq.{tabulate, blocks}
 use Rattle.field.specs.Field.{add, mul}
 use Rattle.field.specs.FiniteSum.{sum}
@@ -11,7 +11,7 @@ use Rattle.matrix.specs.Matrix.{entry}
 
 -- 1 where the two numbers are the same, else 0
 unfoldable pub unit : ℕ → ℕ → ℕ
-unit i j = orElse (eqb i j) 1 0
+unit i j = cond (eqb i j) 1 0
 
 unfoldable pub identity : ℕ → List ℕ
 identity s = blocks s s unit

@@ -1,6 +1,6 @@
 -- What is done to the blocks of a set's nodes: block j is that of node suc j, and byte p of it cell j p. Assumes nothing.
 use mathlib.Core.Path.{_≡_}
-use mathlib.Core.Bool.{Bool, true, false}
+use mathlib.Core.Bool.{true, false}
 use mathlib.Core.List.{List}
 use Prim.Native.Nat.{ℕ, suc, _+_, _*_, _≤_, _<_}
 use lib.ListN.{length}
@@ -10,11 +10,6 @@ use Rattle.params.specs.Nodes.{has, size, count}
 -- blocks are not empty, and a list of that length has the block of each of the set's nodes
 abbrev pub BlocksIn : ℕ → ℕ → ℕ → Type 0
 BlocksIn b set length = (0 < b) × ((j : ℕ) → has set (suc j) ≡ true → j * b + b ≤ length)
-
--- whether a list of that length has these blocks, as a test
-pub record HasBlocks (b set length : ℕ) (answer : Bool) : Type 0 where
-  pub yes-has : answer ≡ true → BlocksIn b set length
-  pub no-lacks : answer ≡ false → BlocksIn b set length → ⊥
 
 -- what putting and comparing ask of the lengths: codeword has a block for each node of the set, and so has fresh, one after the other
 pub record Puttable (b set codeword fresh : ℕ) : Type 0 where

@@ -7,11 +7,12 @@ use blocks::differs;
 use params::Node;
 use params::NodeSet;
 use params::places_of;
-ghost use Rattle.placing.specs.Placed.{HasBlocks, PutPost, ClearPost, ComparePost};
+ghost use Rattle.base.specs.Decided.{Decided};
+ghost use Rattle.placing.specs.Placed.{BlocksIn, PutPost, ClearPost, ComparePost};
 
 // Whether a slice of this length has the block of each of the set's nodes. It has no blocks of 0 bytes.
 pub fn has_blocks(length: usize, set: NodeSet, b: usize) -> bool
-    ensures { λ r. ⌜ HasBlocks b (set .0) length r ⌝ }
+    ensures { λ r. ⌜ Decided (BlocksIn b (set .0) length) r ⌝ }
 {
     if b == 0 {
         return false;

@@ -1,11 +1,11 @@
 -- The lengths that the code finds get the answer of the lengths lent: where the parameters are not valid an earlier question answers, and where they are the
 -- two are the same. Assumes nothing.
 use mathlib.Core.Path.{_≡_, refl, sym, ap, _∙_}
-use mathlib.Core.Bool.{Bool, true, false}
+use mathlib.Core.Bool.{Bool, true, false, cond}
 use mathlib.Core.List.{List, [], _∷_, _++_}
 use Prim.Native.Nat.{ℕ, _*_, _≤_}
 use native.Mathlib.Nat.{le-trans}
-use Rattle.base.specs.Gate.{Question, orElse, firstNo}
+use Rattle.base.specs.Gate.{Question, firstNo}
 use Rattle.params.specs.Params.{reshaped}
 use Rattle.gates.specs.Gates.{shapeAsked, paramsAsked, updateGate, repairGate, decodeGate, reconfigureGate, damageGate}
 use Rattle.gates.specs.Valid.{ValidShape, Valid}
@@ -30,7 +30,7 @@ behind [] rest other h = h tt
 behind (q ∷ qs) rest other h = go (q .answer) (λ e. behind qs rest other (λ y. h (e, y)))
   where
     go : (b : Bool) → (b ≡ true → firstNo (qs ++ rest) ≡ firstNo (qs ++ other))
-        → orElse b (firstNo (qs ++ rest)) (q .number) ≡ orElse b (firstNo (qs ++ other)) (q .number)
+        → cond b (firstNo (qs ++ rest)) (q .number) ≡ cond b (firstNo (qs ++ other)) (q .number)
     go true more = more refl
     go false more = refl
 

@@ -1,6 +1,6 @@
 -- What the calls leave of a buffer whose front they were lent, as the effect of a file's event. Assumes nothing.
 use mathlib.Core.Path.{_≡_, refl, sym, ap, _∙_, subst, subst₂}
-use mathlib.Core.Bool.{Bool}
+use mathlib.Core.Bool.{Bool, cond}
 use mathlib.Core.List.{List, [], _++_}
 use mathlib.Core.Logic.{⊎-elim}
 use Prim.Native.Nat.{ℕ, zero, suc, _+_, _-_, _*_, _≤_, _<_}
@@ -23,7 +23,7 @@ use Rattle.code.specs.Calls.{UpdatePost, RepairPost, DecodePost, ReconfigurePos
 use Rattle.blocks.specs.Bytes.{over}
 use Rattle.blocks.proofs.Laws.{over-same}
 use Rattle.ledger.specs.Ledger as ledger
-use Rattle.ledger.specs.Ledger.{Held, heldUnder, withCodeword, chosen, damagedWord, damagedHeld, Step, updated, repaired, decoded, reconfigured, damaged}
+use Rattle.ledger.specs.Ledger.{Held, heldUnder, withCodeword, damagedWord, damagedHeld, Step, updated, repaired, decoded, reconfigured, damaged}
 use Rattle.ledger.proofs.Invariant.{moved-same, damaged-same}
 use Rattle.season_file.specs.File.{bytesOf}
 use Rattle.season_answers.specs.Answers.{answerOf}
@@ -97,7 +97,7 @@ module _ (a : Params) (input : List ℕ) (f : DamageFields) (buffer : List ℕ) 
   module _ (block : List ℕ) (full : length block ≡ a .b) where
     -- byte p of block i after the damage
     after : ℕ → ℕ → ℕ
-    after i p = chosen (eqb (suc i) (f .node .0)) (getD block p 0) (cell (a .b) (take (a .n * a .b) buffer) i p)
+    after i p = cond (eqb (suc i) (f .node .0)) (getD block p 0) (cell (a .b) (take (a .n * a .b) buffer) i p)
 
     damaged-cell : (i p : ℕ) → i < a .n → p < a .b → cell (a .b) (putBlock (a .b) j buffer block) i p ≡ after i p
     unfolding after
@@ -105,10 +105,10 @@ module _ (a : Params) (input : List ℕ) (f : DamageFields) (buffer : List ℕ) 
         ⊎-elim
         (λ (e : i ≡ j).
         ap (λ (k : ℕ). cell (a .b) (putBlock (a .b) j buffer block) k p) e ∙ putBlock-here (a .b) (a .n) j buffer block below fits full p hp
-        ∙ sym (ap (λ (t : Bool). chosen t (getD block p 0) (cell (a .b) (take (a .n * a .b) buffer) i p)) (eq-eqb (suc i) (f .node .0) (ap suc e ∙ sym node))))
+        ∙ sym (ap (λ (t : Bool). cond t (getD block p 0) (cell (a .b) (take (a .n * a .b) buffer) i p)) (eq-eqb (suc i) (f .node .0) (ap suc e ∙ sym node))))
         (λ (ne : i ≡ j → ⊥).
         putBlock-other (a .b) (a .n) j buffer block below fits full i p ne hp ∙ sym (cell-take (a .b) (a .n) buffer i p hi hp)
-        ∙ sym (ap (λ (t : Bool). chosen t (getD block p 0) (cell (a .b) (take (a .n * a .b) buffer) i p)) (ne-eqb (suc i) (f .node .0) (λ q. ne (omega arith)))))
+        ∙ sym (ap (λ (t : Bool). cond t (getD block p 0) (cell (a .b) (take (a .n * a .b) buffer) i p)) (ne-eqb (suc i) (f .node .0) (λ q. ne (omega arith)))))
         (eq-or i j)
 
     damaged-word : take (a .n * a .b) (putBlock (a .b) j buffer block) ≡ damagedWord a (take (a .n * a .b) buffer) (f .node .0) block

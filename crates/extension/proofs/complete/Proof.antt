@@ -47,7 +47,7 @@ has-blocks-requires : tie.Need-has-blocks-requires
 has-blocks-requires c κs = search needs
 
 returns-4 : tie.Need-returns-4
-returns-4 c = complete-idle _ _ _ _ _ _ _ (λ ok. c .before .has-blocks .ensures .no-lacks (not-true _ (c .if4 .taken)) (ok .inside))
+returns-4 c = complete-idle _ _ _ _ _ _ _ (λ ok. c .before .has-blocks .ensures .fails (not-true _ (c .if4 .taken)) (ok .inside))
 
 slice-aggregate-places-of : tie.Need-slice-aggregate-places-of
 slice-aggregate-places-of c = search needs
@@ -102,7 +102,7 @@ asked c =
       most = m .before .before .if1 .left;
       parts = told-equal _ _ _ (m .before .is-product .ensures) (m .if2 .left);
       values = told-equal _ _ _ (v .before .is-product2 .ensures) (v .if3 .left) ∙ ap (λ (k : ℕ). k * own c .args .b) (sized c .before .size .ensures);
-      inside = t .before .has-blocks .ensures .yes-has (not-false _ (t .if4 .left));
+      inside = t .before .has-blocks .ensures .holds (not-false _ (t .if4 .left));
     }
 
 array-share-prefix-order : tie.Need-array-share-prefix-order

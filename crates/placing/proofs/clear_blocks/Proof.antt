@@ -27,7 +27,7 @@ has-blocks-requires : tie.Need-has-blocks-requires Inv-loop μ-loop
 has-blocks-requires c κs = search needs
 
 returns : tie.Need-returns Inv-loop μ-loop
-returns c = clear-idle _ _ _ (λ ok. c .before .has-blocks .ensures .no-lacks (not-true _ (c .if1 .taken)) ok)
+returns c = clear-idle _ _ _ (λ ok. c .before .has-blocks .ensures .fails (not-true _ (c .if1 .taken)) ok)
 
 slice-aggregate-places-of : tie.Need-slice-aggregate-places-of Inv-loop μ-loop
 slice-aggregate-places-of c = search needs
@@ -48,7 +48,7 @@ listed c =
     record { word = word; lists = placing-zeros _ _ word (c .before .places-of .ensures); count-is = c .before .before .before .before .before .size .ensures }
 
 fits : (c : tie.After-places2 Inv-loop μ-loop) → BlocksIn (start c .args .b) (start c .args .set .0) (length (now (start c .args .codeword)))
-fits c = let e = c .before .before .before in e .before .has-blocks .ensures .yes-has (not-false _ (e .if1 .left))
+fits c = let e = c .before .before .before in e .before .has-blocks .ensures .holds (not-false _ (e .if1 .left))
 
 head : (c : tie.At-loop Inv-loop μ-loop)
     → Written (start (c .before) .args .b) (start (c .before) .args .set .0) (λ r p. 0) (c .loop .i) (now (start (c .before) .args .codeword)) (c .loop .codeword)

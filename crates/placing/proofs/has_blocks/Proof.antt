@@ -1,5 +1,5 @@
 -- No block is empty; a list has as many as the quotient of the lengths says. Assumes nothing.
-use mathlib.Core.Path.{_≡_, refl, sym, _∙_}
+use mathlib.Core.Path.{_≡_, sym, _∙_}
 use mathlib.Core.Bool.{Bool, true, false, true≢false}
 use Prim.Native.Nat.{ℕ, zero, suc, _+_, _*_, _/_, _^_, _≤_, _<_}
 use native.Mathlib.Nat.{suc-mul, le-div-iff-mul-le}
@@ -7,19 +7,21 @@ use native.Mathlib.Omega.{arith}
 use borrow.Author.Needs.{needs}
 use Rattle.params.specs.Nodes.{has, within}
 use Rattle.params.proofs.Sets.{within-has}
-use Rattle.placing.specs.Placed.{HasBlocks}
+use Rattle.base.specs.Decided.{Decided}
+use Rattle.base.proofs.Decisions.{decided-false}
+use Rattle.placing.specs.Placed.{BlocksIn}
 use Rattle.placing.proofs.has_blocks.Statement.{statement}
 use Rattle.placing.proofs.has_blocks.Tie as tie
 
-empty : (b set length : ℕ) → b ≡ 0 → HasBlocks b set length false
-empty b set length e = record { yes-has = λ f. absurd (true≢false (sym f)); no-lacks = λ _ h. omega (arith, h .0) }
+empty : (b set length : ℕ) → b ≡ 0 → Decided (BlocksIn b set length) false
+empty b set length e = decided-false _ (λ h. omega (arith, h .0))
 
-told : (b set length : ℕ) (answer : Bool) → 0 < b → set < 2 ^ 32 → answer ≡ within (length / b) set → HasBlocks b set length answer
+told : (b set length : ℕ) (answer : Bool) → 0 < b → set < 2 ^ 32 → answer ≡ within (length / b) set → Decided (BlocksIn b set length) answer
 told b set length answer some word is =
     record {
-      yes-has = λ e.
+      holds = λ e.
           (some, λ j hj. omega (arith, le-div-iff-mul-le some .0 (within-has (length / b) set word .0 (sym is ∙ e) (suc j) hj), suc-mul j b));
-      no-lacks = λ e all.
+      fails = λ e all.
           true≢false (sym (is ∙ within-has (length / b) set word .1 (λ i hi. bound i hi (all .1))) ∙ e);
     }
   where
