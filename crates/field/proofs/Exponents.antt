@@ -1,19 +1,21 @@
--- Powers, the table of the powers of 02, inverses and division by what is not 0. That 02 gives every nonzero byte exactly once is one computed
--- test over the 255 powers and their exponents; the laws of exponents and inverses follow. Assumes nothing.
+-- Powers, the table of the powers of 02, inverses and division by what is not 0. Each exponent is put in a list at the place that its power says: one
+-- computed test, that no place but that of 00 stays empty, shows that 02 gives every nonzero byte. The laws of exponents and inverses follow. Assumes nothing.
 use mathlib.Core.Path.{_≡_, refl, sym, ap, ap₂, _∙_, subst}
-use mathlib.Core.Bool.{Bool}
+use mathlib.Core.Bool.{Bool, true}
 use mathlib.Core.List.{List, [], _∷_}
 use mathlib.Core.Logic.{⊎-elim}
 use Prim.Native.Nat.{ℕ, zero, suc, _+_, _-_, _*_, _/_, _%_, _<_}
-use native.Mathlib.Nat.{not-suc-le-zero, le-of-suc-le-suc, zero-add, suc-add, div-add-mod'}
+use native.Mathlib.Nat.{not-suc-le-zero, le-of-suc-le-suc, lt-irrefl, zero-add, suc-add, div-add-mod'}
 use native.Mathlib.Numerals.{add-one}
 use native.Mathlib.Omega.{arith}
-use lib.Dec.{T, eqb, ltb, eqb→eq, ltb→lt}
-use lib.ListN.{length, getD, set, replicate}
-use Rattle.base.proofs.Test.{both, both-left, both-right, allBelow, below}
-use Rattle.base.proofs.Cases.{eq-or}
+use lib.Dec.{T, ltb, ltb→lt}
+use lib.ListN.{length, getD, set, replicate, length-set, getD-replicate}
+use lib.Seq.{getD-set-same, getD-set-other}
+use Rattle.base.proofs.Test.{both, both-left, both-right}
+use Rattle.base.proofs.Cases.{lt-or, eq-or}
 use Rattle.field.specs.Field.{IsByte, mul, pow, Inverse, PowerTable, LogTable}
 use Rattle.field.proofs.Multiplication.{mul-comm, mul-assoc, mul-byte, mul-one-left, mul-one-right, mul-zero-right}
+use Rattle.field.proofs.Doubling.{twice, twice-is, twice-byte}
 
 -- ---- exponents
 
@@ -54,26 +56,32 @@ pow-pow a l (suc e) = pow-suc (pow a l) e ∙ ap (mul (pow a l)) (pow-pow a l e)
 
 -- n entries from x on, each 02 times the one before
 unfoldable pub doublings : ℕ → ℕ → List ℕ
+unfolding twice
 doublings zero x = []
-doublings (suc n) x = x ∷ doublings n (mul 2 x)
+doublings (suc n) x = x ∷ doublings n (twice x)
 
-doublings-next : (n x k : ℕ) → suc k < n → getD (doublings n x) (suc k) 0 ≡ mul 2 (getD (doublings n x) k 0)
+length-doublings : (n x : ℕ) → length (doublings n x) ≡ n
 unfolding doublings
-doublings-next zero x k h = absurd (not-suc-le-zero h)
-doublings-next (suc zero) x k h = absurd (not-suc-le-zero (le-of-suc-le-suc h))
-doublings-next (suc (suc n)) x zero h = refl
-doublings-next (suc (suc n)) x (suc k) h = doublings-next (suc n) (mul 2 x) k (le-of-suc-le-suc h)
+length-doublings zero x = refl
+length-doublings (suc n) x = ap suc (length-doublings n (twice x))
+
+doublings-next : (n x k : ℕ) → IsByte x → suc k < n → getD (doublings n x) (suc k) 0 ≡ mul 2 (getD (doublings n x) k 0)
+unfolding doublings
+doublings-next zero x k hx h = absurd (not-suc-le-zero h)
+doublings-next (suc zero) x k hx h = absurd (not-suc-le-zero (le-of-suc-le-suc h))
+doublings-next (suc (suc n)) x zero hx h = twice-is x hx
+doublings-next (suc (suc n)) x (suc k) hx h = doublings-next (suc n) (twice x) k (twice-byte x hx) (le-of-suc-le-suc h)
 
 -- The code's table is compared with this list entry by entry, by computation: that is the doubling rule over all entries.
 pub power-table : PowerTable (doublings 255 1)
 unfolding doublings mul
 power-table =
     record {
-      count = refl;
+      count = length-doublings 255 1;
       first = refl;
       next = λ k h.
           ap (λ (j : ℕ). getD (doublings 255 1) j 0) (add-one k)
-          ∙ doublings-next 255 1 k (subst (λ (j : ℕ). j < 255) (add-one k) h);
+          ∙ doublings-next 255 1 k (omega arith) (subst (λ (j : ℕ). j < 255) (add-one k) h);
       wrap = refl;
     }
 
@@ -103,69 +111,82 @@ pow-mod e =
     sym (mul-one-left _ (pow-byte 2 (e % 255))) ∙ ap (λ (x : ℕ). mul x (pow 2 (e % 255))) (sym (pow-order-times (e / 255)))
     ∙ sym (pow-add 2 (e / 255 * 255) (e % 255)) ∙ ap (pow 2) (div-add-mod' e 255)
 
--- ---- every nonzero byte is a power of 02, exactly once
+-- ---- every nonzero byte is a power of 02
 
 -- the exponents of a list of powers from k on, each put where its power says
 unfoldable pub exponents : List ℕ → ℕ → List ℕ → List ℕ
 exponents [] k l = l
 exponents (x ∷ xs) k l = exponents xs (suc k) (set l x k)
 
+-- 255, which is no exponent, wherever none is put yet; at 00 none ever is
 unfoldable pub logs : List ℕ
-unfolding doublings exponents mul
-logs = exponents (doublings 255 1) 0 (replicate 256 0)
+unfolding doublings exponents
+logs = exponents (doublings 255 1) 0 (0 ∷ replicate 255 255)
 
-length-logs : length logs ≡ 256
+-- the exponents in the list stand where their powers say
+record Placed (l : List ℕ) : Type 0 where
+  count : length l ≡ 256
+  right : (a : ℕ) → IsByte a → (a ≡ 0 → ⊥) → getD l a 0 < 255 → pow 2 (getD l a 0) ≡ a
+
+placed-none : Placed (0 ∷ replicate 255 255)
+placed-none = record { count = refl; right = none }
+  where
+    none : (a : ℕ) → IsByte a → (a ≡ 0 → ⊥) → getD (0 ∷ replicate 255 255) a 0 < 255 → pow 2 (getD (0 ∷ replicate 255 255) a 0) ≡ a
+    none zero h n s = absurd (n refl)
+    none (suc a) h n s = absurd (lt-irrefl 255 (subst (λ (v : ℕ). v < 255) (getD-replicate 255 a 255 0 (le-of-suc-le-suc h)) s))
+
+placed-set : (l : List ℕ) (x k : ℕ) → IsByte x → x ≡ pow 2 k → Placed l → Placed (set l x k)
+placed-set l x k hx e p =
+    record {
+      count = length-set l x k ∙ p .count;
+      right = λ a h n s. ⊎-elim (here a) (λ o. other a o h n s) (eq-or a x);
+    }
+  where
+    here : (a : ℕ) → a ≡ x → pow 2 (getD (set l x k) a 0) ≡ a
+    here a same =
+        ap (λ (i : ℕ). pow 2 (getD (set l x k) i 0)) same
+        ∙ ap (pow 2) (getD-set-same l x k 0 (subst (λ (m : ℕ). x < m) (sym (p .count)) hx)) ∙ sym e ∙ sym same
+
+    other : (a : ℕ) → (a ≡ x → ⊥) → IsByte a → (a ≡ 0 → ⊥) → getD (set l x k) a 0 < 255 → pow 2 (getD (set l x k) a 0) ≡ a
+    other a o h n s =
+        let kept = getD-set-other l x a k 0 o in
+        ap (pow 2) kept ∙ p .right a h n (subst (λ (v : ℕ). v < 255) kept s)
+
+placed-all : (n x k : ℕ) (l : List ℕ) → IsByte x → x ≡ pow 2 k → Placed l → Placed (exponents (doublings n x) k l)
+unfolding doublings exponents
+placed-all zero x k l hx e p = p
+placed-all (suc n) x k l hx e p =
+    placed-all n (twice x) (suc k) (set l x k) (twice-byte x hx) (twice-is x hx ∙ ap (mul 2) e ∙ sym (pow-suc 2 k)) (placed-set l x k hx e p)
+
+logs-placed : Placed logs
 unfolding logs
-length-logs = refl
+logs-placed = placed-all 255 1 0 (0 ∷ replicate 255 255) (omega arith) (sym (pow-zero 2)) placed-none
 
-small? : List ℕ → ℕ → Bool
-small? ls a = ltb (getD ls (suc a) 0) 255
+-- a test of each entry of a list
+allIn : (ℕ → Bool) → List ℕ → Bool
+allIn f [] = true
+allIn f (x ∷ l) = both (f x) (allIn f l)
 
-right? : List ℕ → List ℕ → ℕ → Bool
-right? ps ls a = eqb (getD ps (getD ls (suc a) 0) 0) (suc a)
+in-at : (f : ℕ → Bool) (l : List ℕ) → T (allIn f l) → (i : ℕ) → i < length l → T (f (getD l i 0))
+unfolding allIn
+in-at f [] t i h = absurd (not-suc-le-zero h)
+in-at f (x ∷ l) t zero h = both-left (f x) (allIn f l) t
+in-at f (x ∷ l) t (suc i) h = in-at f l (both-right (f x) (allIn f l) t) i (le-of-suc-le-suc h)
 
-log-test : List ℕ → List ℕ → ℕ → Bool
-unfolding small? right?
-log-test ps ls a = both (small? ls a) (right? ps ls a)
-
-log-tests : T (allBelow 255 (log-test (doublings 255 1) logs))
-unfolding log-test logs
+-- an exponent was put everywhere
+log-tests : T (allIn (λ v. ltb v 255) logs)
+unfolding allIn logs
 log-tests = tt
 
-log-tested : (a : ℕ) → a < 255 → (getD logs (suc a) 0 < 255) × (pow 2 (getD logs (suc a) 0) ≡ suc a)
-unfolding log-test
-log-tested a h =
-    let t = below 255 (log-test (doublings 255 1) logs) log-tests a h in
-    let small : getD logs (suc a) 0 < 255 = ltb→lt _ _ (both-left (small? logs a) (right? (doublings 255 1) logs a) t) in
-    (small, sym (power-at (doublings 255 1) power-table _ small) ∙ eqb→eq _ _ (both-right (small? logs a) (right? (doublings 255 1) logs a) t))
-
 pub log-table : LogTable logs
-log-table = record { count = length-logs; small = λ a h n. facts a h n .0; power = λ a h n. facts a h n .1 }
+log-table =
+    record { count = logs-placed .count; small = λ a h n. small a h; power = λ a h n. logs-placed .right a h n (small a h) }
   where
-    facts : (a : ℕ) → IsByte a → (a ≡ 0 → ⊥) → (getD logs a 0 < 255) × (pow 2 (getD logs a 0) ≡ a)
-    facts zero h n = absurd (n refl)
-    facts (suc a) h n = log-tested a (le-of-suc-le-suc h)
+    small : (a : ℕ) → IsByte a → getD logs a 0 < 255
+    small a h = ltb→lt _ _ (in-at (λ v. ltb v 255) logs log-tests a (subst (λ (m : ℕ). a < m) (sym (logs-placed .count)) h))
 
--- every nonzero byte is a power of 02 ..
 pub generated : (a : ℕ) → IsByte a → (a ≡ 0 → ⊥) → (e : ℕ) × (e < 255) × (pow 2 e ≡ a)
 generated a h n = (getD logs a 0, log-table .small a h n, log-table .power a h n)
-
-again-test : List ℕ → List ℕ → ℕ → Bool
-again-test ps ls e = eqb (getD ls (getD ps e 0) 0) e
-
-again-tests : T (allBelow 255 (again-test (doublings 255 1) logs))
-unfolding again-test logs
-again-tests = tt
-
-log-pow : (e : ℕ) → e < 255 → getD logs (pow 2 e) 0 ≡ e
-unfolding again-test
-log-pow e h =
-    ap (λ (x : ℕ). getD logs x 0) (sym (power-at (doublings 255 1) power-table e h))
-    ∙ eqb→eq _ _ (below 255 (again-test (doublings 255 1) logs) again-tests e h)
-
--- .. exactly once
-pub generated-once : (d e : ℕ) → d < 255 → e < 255 → pow 2 d ≡ pow 2 e → d ≡ e
-generated-once d e hd he p = sym (log-pow d hd) ∙ ap (λ (x : ℕ). getD logs x 0) p ∙ log-pow e he
 
 -- ---- inverses
 
@@ -200,6 +221,37 @@ mul-nonzero a b ha hb na nb p = nb (mul-cancel a b 0 ha na hb (omega arith) (p �
 pub pow-nonzero : (a e : ℕ) → IsByte a → (a ≡ 0 → ⊥) → pow a e ≡ 0 → ⊥
 pow-nonzero a zero ha n p = omega (arith, pow-zero a)
 pow-nonzero a (suc e) ha n p = mul-nonzero a (pow a e) ha (pow-byte a e) n (pow-nonzero a e ha n) (sym (pow-suc a e) ∙ p)
+
+-- ---- exactly once
+
+-- no power with an exponent from 1 to 254 is 01
+later-tests : T (allIn (ltb 1) (doublings 254 (twice 1)))
+unfolding allIn doublings
+later-tests = tt
+
+doublings-rest : (n x k : ℕ) → getD (doublings (suc n) x) (suc k) 0 ≡ getD (doublings n (twice x)) k 0
+unfolding doublings
+doublings-rest n x k = refl
+
+later : (k : ℕ) → k < 254 → 1 < pow 2 (suc k)
+later k h =
+    subst (λ (v : ℕ). 1 < v) (sym (doublings-rest 254 1 k) ∙ power-at (doublings 255 1) power-table (suc k) (omega arith))
+    (ltb→lt _ _ (in-at (ltb 1) (doublings 254 (twice 1)) later-tests k (subst (λ (m : ℕ). k < m) (sym (length-doublings 254 (twice 1))) h)))
+
+rises : (d k : ℕ) → k < 254 → pow 2 d ≡ pow 2 (d + suc k) → ⊥
+rises d k h p = lt-irrefl 1 (subst (λ (v : ℕ). 1 < v) (sym one) (later k h))
+  where
+    one : 1 ≡ pow 2 (suc k)
+    one =
+        mul-cancel (pow 2 d) 1 (pow 2 (suc k)) (pow-byte 2 d) (pow-nonzero 2 d (omega arith) (λ z. omega arith)) (omega arith) (pow-byte 2 (suc k))
+        (mul-one-right (pow 2 d) (pow-byte 2 d) ∙ p ∙ pow-add 2 d (suc k))
+
+pub generated-once : (d e : ℕ) → d < 255 → e < 255 → pow 2 d ≡ pow 2 e → d ≡ e
+generated-once d e hd he p =
+    ⊎-elim (λ h. absurd (rises d (e - suc d) (omega arith) (p ∙ ap (pow 2) (omega arith))))
+    (λ h. ⊎-elim (λ k. absurd (rises e (d - suc e) (omega arith) (sym p ∙ ap (pow 2) (omega arith)))) (λ k. omega arith) (lt-or e d)) (lt-or d e)
+
+-- ---- division
 
 -- the inverse as a power: a · a^254 = a^255 = 01
 pub inverse-power : (a : ℕ) → IsByte a → (a ≡ 0 → ⊥) → mul a (pow a 254) ≡ 1

@@ -1,35 +1,13 @@
--- What the branch-free doubling and product compute. A doubling is compared with 02·x at all bytes; one step of the product takes the lowest
--- bit off the factor and doubles the multiple. Assumes nothing.
+-- One step of the branch-free product takes the lowest bit off the factor and doubles the multiple. Assumes nothing.
 use mathlib.Core.Path.{_≡_, sym, ap, ap₂, _∙_, subst}
-use mathlib.Core.Bool.{Bool}
 use Prim.Native.Nat.{ℕ, zero, suc, _+_, _*_, _/_, _%_, _^_, _≤_, _<_}
 use native.Mathlib.Nat.{not-suc-le-zero, le-of-suc-le-suc, mul-zero, mul-one, mod-lt, zero-lt-suc, mul-le-mul-left}
 use native.Mathlib.Omega.{arith}
-use lib.Dec.{T, eqb, eqb→eq}
-use lib.Bits.{bitXor}
 use lib.Pow.{shr-shr}
-use Rattle.base.proofs.Test.{allBelow, below}
 use Rattle.field.specs.Field.{IsByte, add, mul}
-use Rattle.field.proofs.Addition.{agree, top, add-assoc, add-comm, add-zero-left, add-zero-right}
-use Rattle.field.proofs.Multiplication.{shift-add, mul-add-left, mul-add-right, mul-comm, mul-assoc, mul-zero-left, mul-one-left, mul-byte}
-
-double-test : ℕ → Bool
-double-test x = eqb (bitXor (x % 128 * 2) (x / 128 * 29)) (mul 2 x)
-
-double-tests : T (allBelow 256 double-test)
-unfolding double-test mul
-double-tests = tt
-
-pub double-is : (x : ℕ) → IsByte x → bitXor (x % 128 * 2) (x / 128 * 29) ≡ mul 2 x
-unfolding double-test
-double-is x h = eqb→eq _ _ (below 256 double-test double-tests x h)
-
--- below 128 nothing is reduced
-pub double-small : (q : ℕ) → q < 128 → mul 2 q ≡ q * 2
-unfolding mul
-double-small q h =
-    agree (mul 2) (λ x. x * 2) (mul-add-right 2) (λ a b. shift-add a b 1) 7
-    (λ i hi. eqb→eq _ _ (below 7 (λ i. eqb (mul 2 (2 ^ i)) (2 ^ i * 2)) tt i hi)) q h
+use Rattle.field.proofs.Addition.{top, add-assoc, add-comm, add-zero-left, add-zero-right}
+use Rattle.field.proofs.Multiplication.{mul-add-left, mul-comm, mul-assoc, mul-zero-left, mul-one-left, mul-byte}
+use Rattle.field.proofs.Doubling.{double-small}
 
 bit-times : (b x : ℕ) → b < 2 → IsByte x → mul b x ≡ x * b
 bit-times zero x hb hx = mul-zero-left x ∙ sym (mul-zero x)

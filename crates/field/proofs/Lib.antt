@@ -1,6 +1,7 @@
 pub mod Addition
 pub mod Multiplication
+pub mod Doubling
 pub mod Exponents
 pub mod FiniteSum
-pub mod Kernel
+mod Kernel
 pub mod Bytes

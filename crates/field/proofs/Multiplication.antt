@@ -1,11 +1,10 @@
 -- The laws of the product, for all numbers where the definition allows and for all bytes elsewhere. Products respect sums in each factor
 -- (polynomial product and remainder do), so every other law is computed at the powers of two and carried to all bytes by `agree`. Assumes nothing.
 use mathlib.Core.Path.{_≡_, refl, sym, ap, ap₂, _∙_, subst}
-use mathlib.Core.Bool.{Bool}
 use Prim.Native.Nat.{ℕ, zero, suc, _+_, _*_, _/_, _%_, _^_, _<_}
 use native.Mathlib.Nat.{mod-lt, mod-eq-of-lt, zero-lt-suc, not-suc-le-zero, le-of-suc-le-suc, add-zero}
 use native.Mathlib.Omega.{arith}
-use lib.Dec.{T, eqb, eqb→eq}
+use lib.Dec.{T, eqb, ltb, eqb→eq, ltb→lt}
 use lib.Bits.{bitXor, xor-block, xor-shr, xor-mod}
 use Rattle.base.proofs.Test.{allBelow, below}
 use Rattle.field.specs.Field.{IsByte, add, coeff, scaled, polyMul, polyRem, modulus, mul}
@@ -164,19 +163,11 @@ double-bytes =
     (λ c x y. ap (mul 2) (mul-add-left x y c) ∙ mul-add-right 2 (mul x c) (mul y c))
     (λ b x y. ap (mul 2) (mul-add-right b x y) ∙ mul-add-right 2 (mul b x) (mul b y)) tt
 
-step-test : ℕ → ℕ → Bool
-step-test i j = eqb (mul (2 ^ suc i) (2 ^ j)) (mul 2 (mul (2 ^ i) (2 ^ j)))
-
-step-tests : T (allBelow 7 (λ i. allBelow 8 (step-test i)))
-unfolding step-test mul
-step-tests = tt
-
 step-bytes : (i b : ℕ) → i < 7 → IsByte b → mul (2 ^ suc i) b ≡ mul 2 (mul (2 ^ i) b)
-unfolding step-test
+unfolding mul
 step-bytes i b hi hb =
-    agree (mul (2 ^ suc i)) (λ y. mul 2 (mul (2 ^ i) y)) (mul-add-right (2 ^ suc i))
-    (λ x y. ap (mul 2) (mul-add-right (2 ^ i) x y) ∙ mul-add-right 2 (mul (2 ^ i) x) (mul (2 ^ i) y)) 8
-    (λ j hj. eqb→eq _ _ (below 8 (step-test i) (below 7 (λ i. allBelow 8 (step-test i)) step-tests i hi) j hj)) b hb
+    ap (λ (x : ℕ). mul x b) (eqb→eq _ _ (below 7 (λ i. eqb (2 ^ suc i) (mul 2 (2 ^ i))) tt i hi))
+    ∙ double-bytes (2 ^ i) b (ltb→lt _ _ (below 7 (λ i. ltb (2 ^ i) 256) tt i hi)) hb
 
 assoc-power : (i b c : ℕ) → i < 8 → IsByte b → IsByte c → mul (mul (2 ^ i) b) c ≡ mul (2 ^ i) (mul b c)
 assoc-power zero b c hi hb hc = ap (λ (x : ℕ). mul x c) (mul-one-left b hb) ∙ sym (mul-one-left (mul b c) (mul-byte b c))

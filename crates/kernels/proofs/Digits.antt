@@ -12,7 +12,7 @@ use Rattle.field.specs.Field.{IsByte, add, mul}
 use Rattle.field.specs.FiniteSum.{sum}
 use Rattle.field.proofs.Addition.{top}
 use Rattle.field.proofs.FiniteSum.{sum-zero, sum-last, sum-split}
-use Rattle.field.proofs.Kernel.{double-small}
+use Rattle.field.proofs.Doubling.{double-small}
 use Rattle.field.proofs.Multiplication.{mul-add-left, mul-assoc as times-assoc}
 use Rattle.kernels.specs.Tiling.{bit, number, Grouped, groupsOf, sizeOf, columns}
 

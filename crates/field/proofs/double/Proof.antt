@@ -1,7 +1,7 @@
--- Compared with 02·x at all bytes. Assumes nothing.
+-- The code is `twice`, which is 02·x. Assumes nothing.
 use native.Mathlib.Omega.{arith}
 use borrow.Author.Needs.{needs}
-use Rattle.field.proofs.Kernel.{double-is}
+use Rattle.field.proofs.Doubling.{twice, twice-is}
 use Rattle.field.proofs.double.Statement.{statement}
 use Rattle.field.proofs.double.Tie as tie
 
@@ -12,7 +12,8 @@ mul-result-2 : tie.Need-mul-result-2
 mul-result-2 c = search needs
 
 returns : tie.Need-returns
-returns c = double-is (c .args .x) (omega arith)
+unfolding twice
+returns c = twice-is (c .args .x) (omega arith)
 
 pub double-spec : {M : Type 1} → statement M
 double-spec = tie.close (tie.spec mul-result mul-result-2 returns)
