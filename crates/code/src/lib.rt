@@ -1,6 +1,6 @@
 // The Read-Write code as document 01 fixes it: what blocks, pairs and calls mean (specs/), and the theorems about them (proofs/). The only code here is
 // the point rule, the list of a set's points, and the type of an answer that the statements name.
-use field::Elem;
+use elements::Elem;
 use params::Node;
 use params::NodeSet;
 ghost use mathlib.Core.Path.{_≡_};

@@ -9,10 +9,10 @@ mod raising;
 mod reading;
 
 use base::is_product;
-use field::logs;
-use field::powers;
 use listing::different;
 use listing::lists;
+use tables::logs;
+use tables::powers;
 ghost use Rattle.coefficients.specs.Coefficients.{PowersPost, ReadsPost, ExtendsPost};
 
 // out := a row for each point: its powers 1, .., m. Where out is longer or shorter than these rows, nothing is written.

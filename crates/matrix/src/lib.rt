@@ -117,7 +117,7 @@ fn reduce(s: usize, j: usize, p: usize, w: &mut [u8])
     ensures { λ r. ⌜ Reduced s (j + 1) (now (w .entry)) (now (w .exit)) ⌝ }
 {
     raise(s, j, p, w);
-    let pivot = field::Elem(w[j * STRIDE + j]);
+    let pivot = elements::Elem(w[j * STRIDE + j]);
     let factor = pivot.inverse();
     scale_row(s, j, factor.0, w);
     clear_column(s, j, w);

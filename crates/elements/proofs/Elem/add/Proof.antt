@@ -1,8 +1,8 @@
 -- The code's exclusive or is the definition itself. Assumes nothing.
 use mathlib.Core.Path.{refl}
 use Rattle.field.specs.Field.{add}
-use Rattle.field.proofs.Elem.add.Statement.{statement}
-use Rattle.field.proofs.Elem.add.Tie as tie
+use Rattle.elements.proofs.Elem.add.Statement.{statement}
+use Rattle.elements.proofs.Elem.add.Tie as tie
 
 returns : tie.Need-returns
 unfolding add

@@ -1,8 +1,8 @@
 -- Entry k of the table is 02 to the power k, by the table's rule. Assumes nothing.
 use borrow.Author.Needs.{needs}
 use Rattle.field.proofs.Exponents.{power-at}
-use Rattle.field.proofs.exp.Statement.{statement}
-use Rattle.field.proofs.exp.Tie as tie
+use Rattle.elements.proofs.exp.Statement.{statement}
+use Rattle.elements.proofs.exp.Tie as tie
 
 powers-requires : tie.Need-powers-requires
 powers-requires c κs = search needs

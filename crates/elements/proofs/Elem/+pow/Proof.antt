@@ -5,14 +5,14 @@ use native.Mathlib.Omega.{arith}
 use borrow.Author.Needs.{needs}
 use borrow.Fn.Kinds.{In}
 use borrow.Fn.PlainCycle.{Measures, is, falls, and}
 use Rattle.field.specs.Field.{mul}
 use Rattle.field.proofs.Exponents.{pow-zero, pow-even, pow-odd}
-use Rattle.field.proofs.Elem.pow.Reads as pow
-use Rattle.field.proofs.Elem.pow.Kinds as pow-kinds
-use Rattle.field.proofs.Elem.+pow.Lts-pow as pow-lts
-use Rattle.field.proofs.Elem.mul.Reads as mul-reads
-use Rattle.field.proofs.Elem.+pow.{statement}
-use Rattle.field.proofs.Elem.+pow.Tie.{close}
+use Rattle.elements.proofs.Elem.pow.Reads as pow
+use Rattle.elements.proofs.Elem.pow.Kinds as pow-kinds
+use Rattle.elements.proofs.Elem.+pow.Lts-pow as pow-lts
+use Rattle.elements.proofs.Elem.mul.Reads as mul-reads
+use Rattle.elements.proofs.Elem.+pow.{statement}
+use Rattle.elements.proofs.Elem.+pow.Tie.{close}
 
 abbrev μ-pow : Measures 0 pow-kinds.ps ℕ
 μ-pow κs a = a .1 .0

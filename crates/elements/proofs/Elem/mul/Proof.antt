@@ -2,11 +2,11 @@
 use mathlib.Core.Path.{ap, sym, _∙_}
 use Prim.Native.Nat.{ℕ}
 use borrow.Author.Needs.{needs}
 use Rattle.field.specs.Field.{mul}
 use Rattle.field.proofs.Multiplication.{mul-zero-left, mul-zero-right}
 use Rattle.field.proofs.Exponents.{mul-by-exponents}
-use Rattle.field.proofs.Elem.mul.Statement.{statement}
-use Rattle.field.proofs.Elem.mul.Tie as tie
+use Rattle.elements.proofs.Elem.mul.Statement.{statement}
+use Rattle.elements.proofs.Elem.mul.Tie as tie
 
 returns : tie.Need-returns
 returns c =

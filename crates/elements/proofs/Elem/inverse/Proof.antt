@@ -1,10 +1,10 @@
 -- The inverse of 0 is 0; else the element is a power of 02, and the exponents of the two make 255. Assumes nothing.
 use mathlib.Core.Path.{sym, subst}
 use borrow.Author.Needs.{needs}
 use Rattle.field.specs.Field.{Inverse}
 use Rattle.field.proofs.Exponents.{inverse-by-exponent}
-use Rattle.field.proofs.Elem.inverse.Statement.{statement}
-use Rattle.field.proofs.Elem.inverse.Tie as tie
+use Rattle.elements.proofs.Elem.inverse.Statement.{statement}
+use Rattle.elements.proofs.Elem.inverse.Tie as tie
 
 returns : tie.Need-returns
 returns c = search needs

@@ -3,9 +3,9 @@ use mathlib.Core.Path.{_≡_, ap, sym, _∙_, subst}
 use Prim.Native.Nat.{ℕ, _<_}
 use borrow.Author.Needs.{needs}
 use lib.ListN.{getD}
 use Rattle.field.specs.Field.{pow}
-use Rattle.field.proofs.log.Statement.{statement}
-use Rattle.field.proofs.log.Tie as tie
+use Rattle.elements.proofs.log.Statement.{statement}
+use Rattle.elements.proofs.log.Tie as tie
 
 logs-requires : tie.Need-logs-requires
 logs-requires c κs = search needs
