@@ -1,2 +1,3 @@
 pub mod Valid
+mod Answers
 pub mod Edges

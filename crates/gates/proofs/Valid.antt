@@ -3,8 +3,8 @@ use mathlib.Core.Path.{_≡_, sym, ap₂, _∙_}
 use mathlib.Core.Logic.{_↔_}
 use mathlib.Core.Bool.{_&&_}
 use mathlib.Core.List.{List, [], _∷_, _++_, List·Memᴰ}
-use Prim.Native.Nat.{ℕ, _+_, _-_, _*_, _^_, min, _≤_}
-use native.Mathlib.Nat.{le-trans, min-eq-left, mul-le-mul}
+use Prim.Native.Nat.{ℕ, _+_, _-_, _*_, _≤_}
+use native.Mathlib.Nat.{le-trans, mul-le-mul}
 use native.Mathlib.Omega.{arith}
 use lib.Dec.{leb, eqb}
 use mir.Syntax.{w64}
@@ -12,7 +12,7 @@ use mir.Val.{Fits}
 use borrow.Author.Tests.{leb-true, eqb-true, le-leb, eq-eqb}
 use Rattle.base.specs.Gate.{Question, firstNo}
 use Rattle.params.specs.Nodes.{size, within}
-use Rattle.params.specs.Params.{slackParts, working, shapeOf, reshaped}
+use Rattle.params.specs.Params.{slackParts, working, shapeOf}
 use Rattle.gates.specs.Gates.{shapeAsked, paramsAsked, lengthsAsked, encodeGate, checkGate, decodeGate, deltaGate, updateGate, repairGate, viewGate, reconfigureGate, damageGate}
 use Rattle.gates.specs.Valid.{ValidShape, Valid, EncodeAccepted, CheckAccepted, DecodeAccepted, DeltaAccepted, UpdateAccepted, RepairAccepted, DamageAccepted, ViewAccepted, ReconfigureAccepted}
 use Rattle.params.specs.declared.Params.{Params}
@@ -82,24 +82,13 @@ params-known a y =
 pub params-yes : (a : Params) {R : Type 0} → Valid a → R → YesAnd (paramsAsked a) R
 params-yes a v y = shape-yes 0 (shapeOf a) (v .shape) (ap₂ _&&_ (le-leb _ _ (v .b-low)) (le-leb _ _ (v .b-high)), y)
 
--- the answer 0 of the questions 1 to 5, and 11 to 14 behind them
+-- the answer 0 of the questions 1 to 5
 pub valid-of : (a : Params) {g : ℕ} → g ≡ firstNo (paramsAsked a) → g ≡ 0 → Valid a
 valid-of a e z = params-known a (all-yes (paramsAsked a) tt (sym e ∙ z)) .0
 
-pub valid-both-of : (a : Params) (t : Shape) {g : ℕ} → g ≡ firstNo (paramsAsked a ++ shapeAsked 10 t) → g ≡ 0
-    → Valid a × Valid (reshaped a t)
-valid-both-of a t e z =
-    let p = params-known a (all-yes (paramsAsked a ++ shapeAsked 10 t) tt (sym e ∙ z)) in
-    (p .0, record { shape = shape-known 10 t (p .1) .0; b-low = p .0 .b-low; b-high = p .0 .b-high })
-
--- what check asks, and what a rearrangement asks before the sets
+-- what check asks
 abbrev pub checkAsked : Params → ℕ → List Question
 checkAsked a codeword = paramsAsked a ++ lengthsAsked (eqb codeword (a .n * a .b)) ∷ []
-
-abbrev pub bothAsked : Params → Shape → ℕ → ℕ → ℕ → List Question
-bothAsked a t old new message =
-    (paramsAsked a ++ shapeAsked 10 t) ++
-    lengthsAsked ((eqb old (a .n * a .b) && eqb new (t .n * a .b)) && eqb message (t .k * a .b)) ∷ []
 
 -- the bytes of at most 32 blocks
 pub blocks-most : (count b : ℕ) → count ≤ 32 → b ≤ 1024 → count * b ≤ 32768

@@ -1,19 +1,15 @@
 -- The questions on the parameters are another gate's; then the length. Assumes nothing.
-use mathlib.Core.List.{List, _++_}
-use Prim.Native.Nat.{ℕ}
+use mathlib.Core.Path.{refl}
+use mathlib.Core.List.{[], _∷_}
 use borrow.Author.Needs.{needs}
-use borrow.Author.Tests.{eq-eqb, ne-eqb}
-use Rattle.base.specs.Gate.{Question}
+use lib.Dec.{eqb}
+use Prim.Native.Nat.{_*_}
+use Rattle.gates.specs.Gates.{paramsAsked, lengthsAsked, checkGate}
 use Rattle.gates.specs.Valid.{Valid}
-use Rattle.gates.specs.Gates.{paramsAsked, checkGate}
-use Rattle.base.proofs.Questions.{First, nay, yea, over, first, stopped, past}
 use Rattle.gates.proofs.Valid.{valid-of, n-fits}
+use Rattle.gates.proofs.Answers.{refused, passed, answered-to-6}
 use Rattle.gates.proofs.check_gate.Statement.{statement}
 use Rattle.gates.proofs.check_gate.Tie as tie
-
--- past the earlier gate's questions
-passed : (c : tie.Else1) {rest : List Question} {m : ℕ} → First rest m → First (paramsAsked (c .before .before .args .a) ++ rest) m
-passed c = past (paramsAsked (c .before .before .args .a)) tt (c .before .params-gate .ensures) (c .if1 .left)
 
 valid : (c : tie.Else1) → Valid (c .before .before .args .a)
 valid c = valid-of (c .before .before .args .a) (c .before .params-gate .ensures) (c .if1 .left)
@@ -23,18 +19,21 @@ params-gate-requires c κs = search needs
 
 returns : tie.Need-returns
 unfolding checkGate
-returns c = first _ (stopped (paramsAsked (c .before .before .args .a)) _ (c .before .params-gate .ensures) (c .if1 .taken))
+returns c = refused (paramsAsked (c .before .before .args .a)) _ (c .before .params-gate .ensures) (c .if1 .taken)
 
-mul-if2 : tie.Need-mul-if2
-mul-if2 c = n-fits (valid (c .before))
+mul-answers-gate : tie.Need-mul-answers-gate
+mul-answers-gate c = n-fits (valid (c .before))
+
+answers-gate-requires : tie.Need-answers-gate-requires
+answers-gate-requires c κs = search needs
 
 returns-2 : tie.Need-returns-2
 unfolding checkGate
-returns-2 c = first _ (passed (c .before .before) (nay (ne-eqb _ _ (c .if2 .taken))))
-
-returns-3 : tie.Need-returns-3
-unfolding checkGate
-returns-3 c = first _ (passed (c .before .before) (yea (eq-eqb _ _ (c .if2 .left)) over))
+returns-2 c =
+    let e = c .before .before in
+    let s = e .before .before .args in
+    let right = eqb (s .codeword) (s .a .n * s .a .b) in
+    passed (paramsAsked (s .a)) (lengthsAsked right ∷ []) tt (e .before .params-gate .ensures) (e .if1 .left) (answered-to-6 right refl (c .answers-gate .ensures))
 
 pub check-gate-spec : {M : Type 1} → statement M
-check-gate-spec = tie.close (tie.spec params-gate-requires returns mul-if2 returns-2 returns-3)
+check-gate-spec = tie.close (tie.spec params-gate-requires returns mul-answers-gate answers-gate-requires returns-2)

@@ -1,21 +1,17 @@
--- The questions on the parameters and on the set are other gates'; between them the lengths. Assumes nothing.
-use mathlib.Core.Path.{ap₂}
+-- The questions on the parameters are another gate's; then the lengths and the set. Assumes nothing.
+use mathlib.Core.Path.{refl, ap}
 use mathlib.Core.Bool.{_&&_}
-use mathlib.Core.List.{List, _++_}
-use Prim.Native.Nat.{ℕ}
+use mathlib.Core.List.{[], _∷_}
+use Prim.Native.Nat.{ℕ, _*_}
 use borrow.Author.Needs.{needs}
-use borrow.Author.Tests.{eq-eqb, ne-eqb}
-use Rattle.base.specs.Gate.{Question}
-use Rattle.gates.specs.Gates.{paramsAsked}
+use lib.Dec.{eqb}
+use Rattle.params.specs.Nodes.{size, within}
+use Rattle.gates.specs.Gates.{paramsAsked, lengthsAsked, namesAsked, sizesAsked}
 use Rattle.gates.specs.Valid.{Valid}
-use Rattle.base.proofs.Questions.{First, nay, yea, first, known, stopped, past, not-first}
 use Rattle.gates.proofs.Valid.{valid-of, blocks-fit}
+use Rattle.gates.proofs.Answers.{refused, passed, answered-to-8}
 use Rattle.gates.proofs.set_call_gate.Statement.{statement}
 use Rattle.gates.proofs.set_call_gate.Tie as tie
-
--- past the earlier gate's questions
-passed : (c : tie.Else1) {rest : List Question} {m : ℕ} → First rest m → First (paramsAsked (c .before .before .args .a) ++ rest) m
-passed c = past (paramsAsked (c .before .before .args .a)) tt (c .before .params-gate .ensures) (c .if1 .left)
 
 valid : (c : tie.Else1) → Valid (c .before .before .args .a)
 valid c = valid-of (c .before .before .args .a) (c .before .params-gate .ensures) (c .if1 .left)
@@ -24,38 +20,34 @@ params-gate-requires : tie.Need-params-gate-requires
 params-gate-requires c κs = search needs
 
 returns : tie.Need-returns
-returns c = first _ (stopped (paramsAsked (c .before .before .args .a)) _ (c .before .params-gate .ensures) (c .if1 .taken))
+returns c = refused (paramsAsked (c .before .before .args .a)) _ (c .before .params-gate .ensures) (c .if1 .taken)
 
-mul-if2 : tie.Need-mul-if2
-mul-if2 c = blocks-fit (valid (c .before)) (c .before .before .before .args .x) (c .before .before .before .pre (valid (c .before)) .0)
+mul-answers-gate : tie.Need-mul-answers-gate
+mul-answers-gate c =
+    let s = c .before .before .before in blocks-fit (valid (c .before)) (s .args .x) (s .pre (valid (c .before)) .0)
+
+mul-answers-gate-2 : tie.Need-mul-answers-gate-2
+mul-answers-gate-2 c =
+    let s = c .before .before .before .before in blocks-fit (valid (c .before .before)) (s .args .y) (s .pre (valid (c .before .before)) .1)
+
+within-requires : tie.Need-within-requires
+within-requires c κs = search needs
+
+size-requires : tie.Need-size-requires
+size-requires c κs = search needs
+
+answers-gate-requires : tie.Need-answers-gate-requires
+answers-gate-requires c κs = search needs
 
 returns-2 : tie.Need-returns-2
-returns-2 c = first _ (passed (c .before .before) (nay (not-first _ _ (ne-eqb _ _ (c .if2 .taken)))))
-
-mul-if3 : tie.Need-mul-if3
-mul-if3 c = blocks-fit (valid (c .before .before .before)) (c .before .before .before .before .before .args .y) (c .before .before .before .before .before .pre (valid (c .before .before .before)) .1)
-
-returns-3 : tie.Need-returns-3
-returns-3 c = first _ (passed (c .before .before .before .before) (nay (ap₂ _&&_ (eq-eqb _ _ (c .before .before .if2 .left)) (ne-eqb _ _ (c .if3 .taken)))))
-
-set-gate-requires : tie.Need-set-gate-requires
-set-gate-requires c κs = search needs
-
-returns-4 : tie.Need-returns-4
-returns-4 c =
-    first _
-    (passed (c .before .before .before .before .before)
-    (yea (ap₂ _&&_ (eq-eqb _ _ (c .before .before .before .if2 .left)) (eq-eqb _ _ (c .before .if3 .left))) (known _ (c .set-gate .ensures))))
+returns-2 c =
+    let e = c .before .before .before .before .before in
+    let s = e .before .before .args in
+    let lengths = eqb (s .first) (s .x * s .a .b) && eqb (s .second) (s .y * s .a .b) in
+    let names = within (s .a .n) (s .set .0) in
+    let sizes = eqb (size (s .set .0)) (s .wanted) in
+    passed (paramsAsked (s .a)) (lengthsAsked lengths ∷ namesAsked names ∷ sizesAsked sizes ∷ []) tt (e .before .params-gate .ensures) (e .if1 .left)
+    (answered-to-8 lengths names sizes refl (c .before .before .within .ensures) (ap (λ (x : ℕ). eqb x (s .wanted)) (c .before .size .ensures)) (c .answers-gate .ensures))
 
 pub set-call-gate-spec : {M : Type 1} → statement M
-set-call-gate-spec =
-    tie.close
-    (tie.spec
-    params-gate-requires
-    returns
-    mul-if2
-    returns-2
-    mul-if3
-    returns-3
-    set-gate-requires
-    returns-4)
+set-call-gate-spec = tie.close (tie.spec params-gate-requires returns mul-answers-gate mul-answers-gate-2 within-requires size-requires answers-gate-requires returns-2)

@@ -1,25 +1,28 @@
 -- The questions of check, then that of a damage event. Assumes nothing.
-use Rattle.gates.specs.Gates.{checkGate, viewGate, damageGate}
-use Rattle.gates.proofs.Valid.{checkAsked}
 use borrow.Author.Needs.{needs}
-use Rattle.base.proofs.Questions.{in-turn}
+use Rattle.gates.specs.Gates.{checkGate, viewGate, damageGate, nodeAsked}
+use mathlib.Core.List.{[], _∷_}
+use Rattle.gates.proofs.Valid.{checkAsked}
+use Rattle.gates.proofs.Answers.{refused, passed}
 use Rattle.gates.proofs.view_gate.Statement.{statement}
 use Rattle.gates.proofs.view_gate.Tie as tie
 
 check-gate-requires : tie.Need-check-gate-requires
 check-gate-requires c κs = search needs
 
+returns : tie.Need-returns
+unfolding checkGate viewGate
+returns c =
+    let s = c .before .before .args in refused (checkAsked (s .a) (s .codeword)) (nodeAsked (s .a .n) (s .node .0) ∷ []) (c .before .check-gate .ensures) (c .if1 .taken)
+
 damage-gate-requires : tie.Need-damage-gate-requires
 damage-gate-requires c κs = search needs
 
-first-no-requires : tie.Need-first-no-requires
-first-no-requires c κs = search needs
-
-returns : tie.Need-returns
+returns-2 : tie.Need-returns-2
 unfolding checkGate viewGate damageGate
-returns c =
+returns-2 c =
     let s = c .before .before .before .args in
-    in-turn (checkAsked (s .a) (s .codeword)) _ _ _ tt (c .before .before .check-gate .ensures) (c .before .damage-gate .ensures) (c .first-no .ensures)
+    passed (checkAsked (s .a) (s .codeword)) (nodeAsked (s .a .n) (s .node .0) ∷ []) tt (c .before .before .check-gate .ensures) (c .before .if1 .left) (c .damage-gate .ensures)
 
 pub view-gate-spec : {M : Type 1} → statement M
-view-gate-spec = tie.close (tie.spec check-gate-requires damage-gate-requires first-no-requires returns)
+view-gate-spec = tie.close (tie.spec check-gate-requires returns damage-gate-requires returns-2)
