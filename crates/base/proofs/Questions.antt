@@ -91,19 +91,7 @@ past qs {rest} {g} {m} t e z h = go qs (all-yes qs t (sym e ∙ z))
     go [] y = h
     go (q ∷ qs) y = yea (y .0) (go qs (y .1))
 
--- two lists of questions, one after the other
-pub in-turn : (qs rest : List Question) {m : ℕ} (g h : ℕ) → T (numbered qs) → g ≡ firstNo qs → h ≡ firstNo rest → m ≡ cond (eqb g 0) h g
-    → m ≡ firstNo (qs ++ rest)
-in-turn qs rest {m} g h t e f n = go (eqb g 0) refl n
-  where
-    go : (b : Bool) → eqb g 0 ≡ b → m ≡ cond b h g → m ≡ firstNo (qs ++ rest)
-    go true z n = n ∙ first (qs ++ rest) (past qs t e (eqb-true g 0 z) (known rest f))
-    go false z n = n ∙ first (qs ++ rest) (stopped qs rest e (eqb-false g 0 z))
-
 -- ---- tests
-
-pub not-first : (a b : Bool) → a ≡ false → (a && b) ≡ false
-not-first a b p = ap (λ (x : Bool). x && b) p
 
 pub both-known : (a b : Bool) → (a && b) ≡ true → (a ≡ true) × (b ≡ true)
 both-known true b e = (refl, e)
