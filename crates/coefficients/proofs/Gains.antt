@@ -21,7 +21,8 @@ use Rattle.field.proofs.FiniteSum.{sum-ext}
 use Rattle.interpolation.specs.Polynomial.{Points}
 use Rattle.interpolation.specs.Lagrange.{product, factor, apart, basisValue}
 use Rattle.interpolation.proofs.Lagrange.{apart-byte, apart-elsewhere, apart-nonzero, apart-whole, lagrange}
-use Rattle.coefficients.specs.Working.{same, unitRow, basisValues, basisValueRows, Missing, Weighed, Weighable, Carries, remaining}
+use Rattle.points.specs.Lists.{Among}
+use Rattle.coefficients.specs.Working.{same, unitRow, basisValues, basisValueRows, Weighed, Weighable, Carries, remaining}
 use Rattle.coefficients.proofs.Rows.{tabulated}
 
 -- ---- products by the sums of exponents
@@ -78,12 +79,12 @@ weighed-more e at n weights w room small power before =
 
 -- ---- a target that is none of the points
 
-module _ (e : ℕ) (at : List ℕ) (target : ℕ) (can : Weighable e at) (byte : IsByte target) (out : Missing (length at) at target) (o : ℕ) (ho : o < length at) where
+module _ (e : ℕ) (at : List ℕ) (target : ℕ) (can : Weighable e at) (byte : IsByte target) (out : Among (length at) at target → ⊥) (o : ℕ) (ho : o < length at) where
   abbrev x : ℕ
   x = getD at o 0
 
   pub gap-nonzero : add target (getD at o 0) ≡ 0 → ⊥
-  gap-nonzero z = out o ho (sym (add-zero-eq target x z))
+  gap-nonzero z = out (o, ho, sym (add-zero-eq target x z))
 
   pub gain-found : (weight gap parts back whole g : ℕ) → pow 2 weight ≡ apart e at (getD at o 0) (getD at o 0)
       → pow 2 gap ≡ add target (getD at o 0) → pow 2 parts ≡ pow 2 (weight + gap) → mul (pow 2 parts) (pow 2 back) ≡ 1
@@ -96,7 +97,7 @@ module _ (e : ℕ) (at : List ℕ) (target : ℕ) (can : Weighable e at) (byte :
       (mul-cancel D (mul (pow 2 g) W) N (add-byte target x byte (can .tell .bytes o)) gap-nonzero (mul-byte _ _) (apart-byte e at x target)
       (ap (λ (k : ℕ). mul D (mul k W)) (h ∙ pow-add 2 whole back) ∙ mul-comm D _ ∙ mul-assoc _ W D
       ∙ ap (mul (mul (pow 2 whole) (pow 2 back))) (sym product-is) ∙ mul-assoc (pow 2 whole) (pow 2 back) (pow 2 parts)
-      ∙ ap (mul (pow 2 whole)) (mul-comm _ _ ∙ hb) ∙ mul-one-right _ (pow-byte 2 whole) ∙ hz ∙ apart-whole e at target o (can .tell) ho out ∙ mul-comm N D))
+      ∙ ap (mul (pow 2 whole)) (mul-comm _ _ ∙ hb) ∙ mul-one-right _ (pow-byte 2 whole) ∙ hz ∙ apart-whole e at target o (can .tell) ho (λ i hi q. out (i, hi, q)) ∙ mul-comm N D))
     where
       W : ℕ
       W = apart e at x x

@@ -1,8 +1,6 @@
 -- What the private functions compute, over lists of points. No exported contract rests on these names. Assumes nothing.
 use mathlib.Core.Path.{_≡_}
-use mathlib.Core.Bool.{Bool, true, false}
 use mathlib.Core.List.{List}
-use mathlib.Core.Logic.{_⊎_}
 use Prim.Native.Nat.{ℕ, suc, _+_, _*_, _≤_, _<_}
 use lib.Dec.{eqb}
 use lib.ListN.{length, getD}
@@ -15,26 +13,6 @@ use Rattle.interpolation.specs.Lagrange.{coefs, apart, basisValue}
 -- c, c^2, .., c^m
 unfoldable pub powersOf : ℕ → ℕ → List ℕ
 powersOf c m = tabulate m (λ j. pow c (suc j))
-
--- ---- questions about lists of points
-
--- none of the first n points of the list is x
-abbrev pub Missing : ℕ → List ℕ → ℕ → Type 0
-Missing n points x = (i : ℕ) → i < n → getD points i 0 ≡ x → ⊥
-
--- whether one of all is
-pub record Listed (points : List ℕ) (x : ℕ) (answer : Bool) : Type 0 where
-  pub found : answer ≡ true → (i : ℕ) × (i < length points) × (getD points i 0 ≡ x)
-  pub missing : answer ≡ false → Missing (length points) points x
-
--- each of the first n points of the list is at most this
-abbrev pub AtMost : ℕ → ℕ → List ℕ → Type 0
-AtMost most n points = (i : ℕ) → i < n → getD points i 0 ≤ most
-
--- whether x is not 00 and none of the points
-pub record Told (points : List ℕ) (x : ℕ) (answer : Bool) : Type 0 where
-  pub new : answer ≡ true → (x ≡ 0 → ⊥) × Missing (length points) points x
-  pub old : answer ≡ false → (x ≡ 0) ⊎ ((i : ℕ) × (i < length points) × (getD points i 0 ≡ x))
 
 -- ---- from values to coefficients
 
@@ -124,7 +102,7 @@ pub record Carries (e : ℕ) (at targets gains : List ℕ) : Type 0 where
 -- what such rows ask
 pub record Carriable (e : ℕ) (at targets gains : List ℕ) : Type 0 where
   pub formula : Weighable e at
-  pub nonzero : Missing (length targets) targets 0
+  pub nonzero : (t : ℕ) → t < length targets → getD targets t 0 ≡ 0 → ⊥
   pub room : length gains ≡ length targets * length at
 
 -- each of the rows of e entries has its gains, times the powers 1, .., e of the points of `at`, added

@@ -1,6 +1,5 @@
 // From leading coefficients and values at some points to values at others.
 use crate::distances::apart_exponent;
-use crate::listing::lists;
 use crate::logarithms::exponent;
 use crate::logarithms::opposite;
 use crate::logarithms::reduced;
@@ -8,13 +7,15 @@ use crate::raising::fill_rows;
 use base::wide;
 use kernels::add_product;
 use params::in_order;
+use points::lists;
 ghost use mathlib.Core.Path.{_≡_};
 ghost use Prim.Native.Nat.{_*_, _≤_, _<_};
 ghost use lib.ListN.{length};
 ghost use Rattle.field.specs.Field.{LogTable, PowerTable};
 ghost use Rattle.interpolation.specs.Polynomial.{Points};
+ghost use Rattle.points.specs.Lists.{Among};
 ghost use Rattle.coefficients.specs.Coefficients.{Extends, Roomy};
-ghost use Rattle.coefficients.specs.Working.{same, unitRow, basisValues, basisValueRows, Missing, Weighed, Weighable, Findable, Carries, Carriable, withPowers, withShare, Shared, Sharable};
+ghost use Rattle.coefficients.specs.Working.{same, unitRow, basisValues, basisValueRows, Weighed, Weighable, Findable, Carries, Carriable, withPowers, withShare, Shared, Sharable};
 
 // leading and gains := the rows that take leading coefficients, and values at the points of `at`, to values at the targets. A value at a
 // point of `at` has the leading coefficients' share in it, which the gains carry to the targets too, where it does not belong. So leading subtracts it, which in this field is adding it.
@@ -157,7 +158,7 @@ fn fill_apart(
     requires { ⌜ LogTable (now logs) ⌝ }
     requires { ⌜ PowerTable (now exps) ⌝ }
     requires { ⌜ Findable e (now at) (now weights) target (now gains) ⌝ }
-    requires { ⌜ Missing (length (now at)) (now at) target ⌝ }
+    requires { ⌜ (Among (length (now at)) (now at) target → ⊥) ⌝ }
     ensures { λ _. ⌜ now (gains .exit) ≡ basisValues e (now (at .entry)) target ⌝ }
 {
     let whole = apart_exponent(logs, e, at, target);

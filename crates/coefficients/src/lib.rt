@@ -3,14 +3,13 @@
 // coefficients, the other by their values. A polynomial has no constant term here: its coefficients belong to the powers from 1 on.
 mod completing;
 mod distances;
-mod listing;
 mod logarithms;
 mod raising;
 mod reading;
 
 use base::is_product;
-use listing::different;
-use listing::lists;
+use points::different;
+use points::lists;
 use tables::logs;
 use tables::powers;
 ghost use Rattle.coefficients.specs.Coefficients.{PowersPost, ReadsPost, ExtendsPost};

@@ -45,7 +45,7 @@ lists-requires : tie.Need-lists-requires
 lists-requires c κs = search needs
 
 returns-7 : tie.Need-returns-7
-returns-7 c = extends-kept _ _ _ _ _ (λ r. let f = c .before .lists .ensures .found (c .if7 .taken) in r .nonzero (f .0) (f .1) (f .2))
+returns-7 c = extends-kept _ _ _ _ _ (λ r. let f = c .before .lists .ensures .holds (c .if7 .taken) in r .nonzero (f .0) (f .1) (f .2))
 
 -- where the call began
 abbrev start : tie.Else7 → tie.Start
@@ -59,7 +59,7 @@ roomy c =
       most = omega (arith, c .before .before .before .before .before .before .before .if2 .left);
       few = omega (arith, c .before .before .before .before .before .before .if3 .left);
       tell = c .before .before .before .different .ensures .holds (not-false (c .before .before .before .different .result) (c .before .before .if6 .left));
-      nonzero = c .before .lists .ensures .missing (c .if7 .left);
+      nonzero = λ t h z. c .before .lists .ensures .fails (c .if7 .left) (t, h, z);
       leading-room = c .before .before .before .before .before .if4 .left;
       gains-room = c .before .before .before .before .if5 .left;
     }

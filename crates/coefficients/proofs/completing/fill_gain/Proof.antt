@@ -18,14 +18,14 @@ same-length c = search needs
 returns : tie.Need-returns
 returns c =
     let s = c .before .before .before .before .before .before .before .before .before .before .before in
-    let f = c .before .before .before .before .before .lists .ensures .found (c .before .before .before .before .if1 .taken) in
+    let f = c .before .before .before .before .before .lists .ensures .holds (c .before .before .before .before .if1 .taken) in
     c .before .before .fill-unit .ensures ∙ unit-gains (s .args .e) (now (s .args .at)) (s .args .target) (f .0) (s .pre .1 .1 .formula) (f .1) (f .2)
 
 fill-apart-requires : tie.Need-fill-apart-requires
 fill-apart-requires c κs =
     let s = c .before .before .before .before .before .before .before .before in
     let l = c .before .before .lists in
-    (s .pre .0, (s .pre .1 .0, (s .pre .1 .1, l .ensures .missing (c .before .if1 .left))))
+    (s .pre .0, (s .pre .1 .0, (s .pre .1 .1, l .ensures .fails (c .before .if1 .left))))
 
 same-length-2 : tie.Need-same-length-2
 same-length-2 c = search needs

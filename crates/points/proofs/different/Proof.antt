@@ -1,6 +1,5 @@
 -- After i turns none of the first i points is 00, none of them is listed before, and none exceeds `most`. Assumes nothing.
 use mathlib.Core.Path.{sym}
-use mathlib.Core.Logic.{⊎-elim}
 use Prim.Native.Nat.{_-_, _≤_}
 use native.Mathlib.Omega.{arith}
 use borrow.Author.Needs.{needs}
@@ -8,10 +7,10 @@ use borrow.Author.Tests.{not-true, not-false}
 use denote.Ref.{now}
 use lib.ListN.{length}
 use lib.Seq.{length-take-le}
-use Rattle.coefficients.specs.Working.{AtMost}
-use Rattle.coefficients.proofs.Distinct.{at-most-more, at-most-front, Apart, apart-start, apart-next, zero-found, twice-found, apart-told}
-use Rattle.coefficients.proofs.listing.different.Statement.{statement}
-use Rattle.coefficients.proofs.listing.different.Tie as tie
+use Rattle.points.specs.Lists.{AtMost}
+use Rattle.points.proofs.Distinct.{at-most-more, at-most-front, Apart, apart-start, apart-next, old-found, apart-told}
+use Rattle.points.proofs.different.Statement.{statement}
+use Rattle.points.proofs.different.Tie as tie
 
 abbrev Inv-loop : tie.InvT-loop
 Inv-loop points most₀ i₀ most i = (i ≤ length points) × Apart i points × AtMost most i points
@@ -38,8 +37,7 @@ returns c =
     let n = c .before in
     let l = n .before .before .before .before .loop in
     let points = now (n .before .before .before .before .before .before .args .points) in
-    ⊎-elim (zero-found points (l .i) (omega arith)) (λ f. twice-found points (l .i) (omega arith) (f .0) (f .1) (f .2))
-    (n .is-new .ensures .old (not-true _ (c .if1 .taken)))
+    old-found points (l .i) (omega arith) (n .is-new .ensures .fails (not-true _ (c .if1 .taken)))
 
 larger-requires : tie.Need-larger-requires Inv-loop μ-loop
 larger-requires c κs = search needs
@@ -55,9 +53,9 @@ loop-again c =
     let n = c .before .before in
     let l = n .before .before .before .before .loop in
     let points = now (n .before .before .before .before .before .before .args .points) in
-    let new = n .is-new .ensures .new (not-false _ (c .before .if1 .left)) in (
+    let new = n .is-new .ensures .holds (not-false _ (c .before .if1 .left)) in (
       omega arith,
-      apart-next points (l .i) (omega arith) (new .0) (new .1) (l .inv .1),
+      apart-next points (l .i) (omega arith) new (l .inv .1),
       at-most-more points (l .i) (l .most) (c .larger .result) (c .larger .ensures .0) (c .larger .ensures .1) (l .inv .2),
     )
 
