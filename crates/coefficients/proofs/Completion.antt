@@ -1,21 +1,25 @@
 -- Completion rows: the gains take what the remaining coefficients give at some points to what they give at others, and what the leading ones give
 -- there goes the same way and is counted twice, that is not at all. Assumes nothing.
 use mathlib.Core.Path.{_≡_, refl, sym, ap, ap₂, _∙_}
+use mathlib.Core.Bool.{Bool, true, false, not}
 use mathlib.Core.List.{List, _++_}
-use Prim.Native.Nat.{ℕ, suc, _*_, _<_}
+use Prim.Native.Nat.{ℕ, suc, _*_, _≤_, _<_}
 use native.Mathlib.Nat.{le-refl}
 use native.Mathlib.Omega.{arith}
 use lib.ListN.{length, getD, take}
 use Rattle.base.specs.Seq.{cell}
+use Rattle.base.specs.Decided.{Decided}
 use Rattle.base.proofs.Buffers.{buffer-front}
+use Rattle.base.proofs.Decisions.{decided-true, decided-false}
 use Rattle.field.specs.Field.{add, mul, pow}
 use Rattle.field.specs.FiniteSum.{sum}
 use Rattle.field.proofs.Addition.{add-assoc, add-cancel}
 use Rattle.field.proofs.Multiplication.{mul-comm, mul-add-left, mul-add-right}
 use Rattle.field.proofs.FiniteSum.{sum-ext, sum-add}
-use Rattle.interpolation.specs.Polynomial.{evaluate}
+use Rattle.interpolation.specs.Polynomial.{evaluate, Points}
 use Rattle.interpolation.proofs.Lagrange.{associate}
 use Rattle.params.specs.Nodes.{inOrder}
+use Rattle.points.specs.Lists.{Among}
 use Rattle.kernels.specs.Blocks.{Fits, Added}
 use Rattle.kernels.proofs.Arriving.{ordered-added}
 use Rattle.coefficients.specs.Coefficients.{powerRows, Extends, Roomy, ExtendsPost}
@@ -101,6 +105,24 @@ completed e at targets old leading gains hl carry share =
     }
 
 -- ---- what the call leaves
+
+-- the last question is about the targets
+pub roomy-told : (e : ℕ) (at targets : List ℕ) (leading gains : ℕ) (b : Bool) → e ≤ 32 → length at ≤ 32 → length targets ≤ 32 → Points at
+    → leading ≡ length targets * e → gains ≡ length targets * length at → Decided (Among (length targets) targets 0) b
+    → Decided (Roomy e at targets leading gains) (not b)
+roomy-told e at targets leading gains true e-most most few tell leading-room gains-room d =
+    decided-false _ (λ r. let f = d .holds refl in r .nonzero (f .0) (f .1) (f .2))
+roomy-told e at targets leading gains false e-most most few tell leading-room gains-room d =
+    decided-true _
+    record {
+      e-most = e-most;
+      most = most;
+      few = few;
+      tell = tell;
+      nonzero = λ t h z. d .fails refl (t, h, z);
+      leading-room = leading-room;
+      gains-room = gains-room;
+    }
 
 -- what is asked for cannot be had
 pub extends-kept : (e : ℕ) (at targets leading gains : List ℕ) → (Roomy e at targets (length leading) (length gains) → ⊥)

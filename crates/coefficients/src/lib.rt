@@ -12,7 +12,8 @@ use points::different;
 use points::lists;
 use tables::logs;
 use tables::powers;
-ghost use Rattle.coefficients.specs.Coefficients.{PowersPost, ReadsPost, ExtendsPost};
+ghost use Rattle.base.specs.Decided.{Decided};
+ghost use Rattle.coefficients.specs.Coefficients.{PowersPost, ReadsPost, Roomy, ExtendsPost};
 
 // out := a row for each point: its powers 1, .., m. Where out is longer or shorter than these rows, nothing is written.
 pub fn power_rows(points: &[u8], m: usize, out: &mut [u8])
@@ -55,28 +56,35 @@ pub fn reading_rows(k: usize, points: &[u8], rows: &mut [u8])
 pub fn completion_rows(e: usize, at: &[u8], targets: &[u8], leading: &mut [u8], gains: &mut [u8])
     ensures { λ _. ⌜ ExtendsPost e (now (at .entry)) (now (targets .entry)) (now (leading .entry)) (now (gains .entry)) (now (leading .exit)) (now (gains .exit)) ⌝ }
 {
-    let m = at.len();
-    let count = targets.len();
-    if 32 < e {
-        return;
-    }
-    if 32 < m {
-        return;
-    }
-    if 32 < count {
-        return;
-    }
-    if leading.len() != count * e {
-        return;
-    }
-    if gains.len() != count * m {
-        return;
-    }
-    if !different(at) {
-        return;
-    }
-    if lists(targets, 0) {
+    if !can_complete(e, at, targets, leading.len(), gains.len()) {
         return;
     }
     completing::complete(&logs(), &powers(), e, at, targets, leading, gains);
+}
+
+// Whether the points and targets, and the lengths of leading and gains, are as the rows ask.
+fn can_complete(e: usize, at: &[u8], targets: &[u8], leading: usize, gains: usize) -> bool
+    ensures { λ r. ⌜ Decided (Roomy e (now (at .entry)) (now (targets .entry)) leading gains) r ⌝ }
+{
+    let m = at.len();
+    let count = targets.len();
+    if 32 < e {
+        return false;
+    }
+    if 32 < m {
+        return false;
+    }
+    if 32 < count {
+        return false;
+    }
+    if leading != count * e {
+        return false;
+    }
+    if gains != count * m {
+        return false;
+    }
+    if !different(at) {
+        return false;
+    }
+    !lists(targets, 0)
 }

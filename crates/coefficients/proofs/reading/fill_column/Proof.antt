@@ -90,13 +90,13 @@ module _ (c : tie.After-shared-slice-known7 Inv-loop μ-loop) where
   inverse : mul x (pow 2 (c .before .before .before .before .before .before .opposite .result)) ≡ 1
   inverse =
       let o = c .before .before .before .before .before .before .opposite in
-      ap (λ (k : ℕ). mul k (pow 2 (o .result))) (sym (c .before .before .before .before .before .before .before .exponent .ensures .1)) ∙ o .ensures .1
+      subst (λ (k : ℕ). mul k (pow 2 (o .result)) ≡ 1) (c .before .before .before .before .before .before .before .exponent .ensures .1) (o .ensures .1)
 
   -- .. and the one that divides by what the quotient, times z, is there
   weight : mul (apart 0 points x x) (pow 2 (c .before .before .before .opposite2 .result)) ≡ 1
   weight =
       let o = c .before .before .before .opposite2 in
-      ap (λ (k : ℕ). mul k (pow 2 (o .result))) (sym (c .before .before .before .before .apart-exponent .ensures .1)) ∙ o .ensures .1
+      subst (λ (k : ℕ). mul k (pow 2 (o .result)) ≡ 1) (c .before .before .before .before .apart-exponent .ensures .1) (o .ensures .1)
 
   -- the first entry is written
   lead-is : lead ≡ basis points (start c .args .i) 0
