@@ -1,7 +1,7 @@
 -- A completion's targets, each in its node's own block. Assumes nothing.
 use mathlib.Core.Path.{_≡_, refl, sym, ap, ap₂, _∙_}
 use mathlib.Core.List.{List}
-use Prim.Native.Nat.{ℕ, suc, _*_, _^_, _≤_, _<_}
+use Prim.Native.Nat.{ℕ, suc, _^_, _≤_, _<_}
 use native.Mathlib.Nat.{suc-mul}
 use native.Mathlib.Omega.{arith}
 use lib.ListN.{length, getD, take}
@@ -9,7 +9,7 @@ use Rattle.base.specs.Seq.{cell}
 use Rattle.field.specs.Field.{add}
 use Rattle.field.proofs.Addition.{add-zero-left}
 use Rattle.interpolation.specs.Polynomial.{evaluate}
-use Rattle.params.specs.Nodes.{has, size, count, inOrder, placesOf}
+use Rattle.params.specs.Nodes.{has, size, inOrder, placesOf}
 use Rattle.params.proofs.Sets.{has-le, node-at-rank, size-most, size-count, entry}
 use Rattle.params.proofs.Placing.{placed-length}
 use Rattle.code.specs.Code.{point}

@@ -1,7 +1,6 @@
 -- The blocks of R's pair, from R's blocks: at one byte place the pair is one list of coefficients, none of them leading, and R's blocks are its values.
 -- Assumes nothing.
 use mathlib.Core.Path.{_≡_, refl, sym, ap, ap₂, _∙_, subst⁻¹}
-use mathlib.Core.Bool.{true}
 use mathlib.Core.List.{List}
 use Prim.Native.Nat.{ℕ, suc, _+_, _*_, _^_, _≤_, _<_}
 use native.Mathlib.Nat.{zero-add}
@@ -18,12 +17,11 @@ use Rattle.interpolation.proofs.Rows.{join, join-left, join-right, join-byte}
 use Rattle.params.specs.Nodes.{has, size, count, listed, placesOf, inOrder}
 use Rattle.params.specs.Params.{slackParts, working}
 use Rattle.params.specs.declared.Params.{Params}
-use Rattle.params.proofs.Sets.{has-le, node-at-rank, size-most}
-use Rattle.params.proofs.Placing.{place-of, placed-length, placed-at}
+use Rattle.params.proofs.Sets.{has-le, node-at-rank, size-most, rank-inside}
+use Rattle.params.proofs.Placing.{placed-length, placed-node}
 use Rattle.code.specs.Code.{point, block}
 use Rattle.kernels.proofs.Laws.{block-inside}
 use Rattle.coefficients.proofs.Laws.{first-length, first-inside}
-use Rattle.placing.proofs.Ranks.{rank-inside}
 use Rattle.extension.specs.Blocks.{Recomputable, RecomputePost}
 use Rattle.extension.specs.Extending.{Extendable, Extended}
 use Rattle.extension.proofs.Targets.{arriving-ordered}
@@ -51,11 +49,6 @@ module _ (from targets q rows : ℕ) (places order : List ℕ) (word : from < 2 
   few : rows ≤ 32
   few = omega (arith, size-most targets word′)
 
-  -- the node of entry o, and its place
-  place-node : (o : ℕ) → o < size from → (j : ℕ) × (has from (suc j) ≡ true) × (getD (listed from) o 0 ≡ suc j) × (getD (take q places) o 0 ≡ j)
-  place-node o ho =
-      let g = place-of from o word ho in (g .0, g .1, g .2, placed-at from word places told q hq o (omega arith) ∙ g .3)
-
   module _ (a : Params) (codeword old : List ℕ) (ok : Recomputable a from targets (length codeword) (length old)) where
     -- what the extension asks
     pub recompute-asks : (fresh : ℕ) → fresh ≡ length old → Extendable (a .b) 0 from targets (take q places) (take rows order) 0 (length codeword) fresh
@@ -65,7 +58,7 @@ module _ (from targets q rows : ℕ) (places order : List ℕ) (word : from < 2 
           parts = omega arith;
           count-is = placed-length from word places told q hq ∙ hq;
           block = λ o ho.
-              let g = place-node o ho in
+              let g = placed-node from word places told q hq o (omega arith) in
               subst⁻¹ (λ (j : ℕ). suc j * a .b ≤ length codeword) (g .3)
               (block-inside (a .b) (a .n) (g .0) (length codeword) (ok .inside (suc (g .0)) (g .1)) (omega (arith, ok .codeword-length)));
           to-count = first-length order ordered rows few ∙ hr;
@@ -84,7 +77,7 @@ module _ (from targets q rows : ℕ) (places order : List ℕ) (word : from < 2 
               (join-byte (a .k) _ _ (λ j. cell-byte (a .b) x j p (gives .pair .message .bytes))
               (λ j. cell-byte (a .b) v j p (gives .pair .slack .bytes)))
               (λ o ho.
-              let g = place-node o ho in
+              let g = placed-node from word places told q hq o (omega arith) in
               block-value a x v (getD (listed from) o 0) p (size from) _ (ok .full)
               ∙ ap (λ (i : ℕ). block a x v i p) (g .2) ∙ gives .equal (g .0) p (omega (arith, ok .inside (suc (g .0)) (g .1))) (g .1) hp
               ∙ ap (λ (i : ℕ). cell (a .b) codeword i p) (sym (g .3)))

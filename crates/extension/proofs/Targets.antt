@@ -7,11 +7,11 @@ use native.Mathlib.Omega.{arith}
 use lib.ListN.{length, getD, take}
 use lib.Seq.{getD-take}
 use Rattle.params.specs.Nodes.{has, size, count, inOrder, placesOf}
-use Rattle.params.proofs.Placing.{placed-length}
+use Rattle.params.proofs.Sets.{same-rank, rank-inside}
+use Rattle.params.proofs.Placing.{placed-length, nodeAt}
 use Rattle.kernels.specs.Blocks.{arriving}
-use Rattle.kernels.proofs.Arriving.{arriving-none, arriving-one}
+use Rattle.kernels.proofs.Arriving.{arriving-one}
 use Rattle.coefficients.proofs.Laws.{first-length, first-at}
-use Rattle.placing.proofs.Ranks.{rank-inside, same-rank, nodeAt}
 
 -- one after the other: block t gets term t
 pub arriving-ordered : (order : List ℕ) → order ≡ inOrder → (rows : ℕ) → rows ≤ 32 → (f : ℕ → ℕ) (t : ℕ) → t < rows

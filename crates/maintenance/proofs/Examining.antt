@@ -17,7 +17,8 @@ use Rattle.field.specs.Field.{Bytes}
 use Rattle.params.specs.Nodes.{has, size, count}
 use Rattle.params.specs.Params.{working}
 use Rattle.params.specs.declared.Params.{Params}
-use Rattle.params.proofs.Sets.{has-none, range-yes, range-no, count-ext, count-range, size-count, within-has, outside-has, outside-size}
+use Rattle.params.proofs.Sets.{has-none, range-yes, range-no, count-ext, count-range, size-count, within-has}
+use Rattle.params.proofs.Outside.{Outside, outside-has, outside-le, outside-size}
 use Rattle.gates.specs.Gates.{checkGate}
 use Rattle.gates.specs.Valid.{CheckAccepted}
 use Rattle.gates.proofs.Valid.{working-le}
@@ -27,7 +28,6 @@ use Rattle.code.specs.declared.Verdict.{Verdict}
 use Rattle.code.specs.declared.Verdict.the-variants.{Agrees, Differs}
 use Rattle.code.proofs.Pairs.{pair-exists, first-reads}
 use Rattle.placing.specs.Placed.{Puttable, ComparePost}
-use Rattle.placing.proofs.Outside.{Outside, outside-le}
 use Rattle.extension.specs.Blocks.{Recomputable, RecomputePost}
 use Rattle.maintenance.specs.Cores.{Checkable, Examined}
 

@@ -1,5 +1,5 @@
 -- A rebuild: what its core asks of an accepted call, that recomputed blocks put in place are what it does, and what this makes of the call. Assumes nothing.
-use mathlib.Core.Path.{_≡_, sym, ap, _∙_}
+use mathlib.Core.Path.{_≡_, sym, _∙_}
 use mathlib.Core.List.{List}
 use Prim.Native.Nat.{ℕ, suc, _*_, _^_, _<_}
 use native.Mathlib.Omega.{arith}

@@ -1,3 +1,4 @@
 pub mod Sets
 mod Words
 pub mod Placing
+pub mod Outside

@@ -1,6 +1,6 @@
 -- Places of blocks, by their entries; and what places_of makes of the list of a set's nodes, entry by entry. Assumes nothing.
 use mathlib.Core.Path.{_≡_, refl, sym, ap, ap₂, _∙_, subst⁻¹}
-use mathlib.Core.Bool.{true}
+use mathlib.Core.Bool.{true, false, true≢false}
 use mathlib.Core.List.{List, _++_}
 use mathlib.Core.Logic.{⊎-elim}
 use Prim.Native.Nat.{ℕ, suc, _+_, _-_, _*_, _^_, _≤_, _<_}
@@ -12,7 +12,7 @@ use Rattle.base.proofs.Cases.{eq-or}
 use Rattle.base.specs.Seq.{tabulate}
 use Rattle.base.proofs.Seq.{length-tabulate, getD-tabulate, eq-tabulate, zeros-at}
 use Rattle.base.specs.Parts.{Filled}
-use Rattle.params.specs.Nodes.{has, size, listed, Listing, inOrder, placesOf, Placing}
+use Rattle.params.specs.Nodes.{has, size, count, listed, Listing, inOrder, placesOf, Placing}
 use Rattle.params.proofs.Sets.{length-nodes, entry, size-most, length-listed}
 
 pub length-in-order : length inOrder ≡ 32
@@ -27,28 +27,51 @@ length-places s = length-tabulate 32 (λ j. getD (listed s) j 0 - 1)
 places-at : (s j : ℕ) → j < 32 → getD (placesOf s) j 0 ≡ getD (listed s) j 0 - 1
 places-at s j h = getD-tabulate 32 (λ j. getD (listed s) j 0 - 1) j h
 
--- entry k is the place of a node of the set
+-- entry k is the place of the set's node of rank k
 pub place-of : (s k : ℕ) → s < 2 ^ 32 → k < size s
-    → (j : ℕ) × (has s (suc j) ≡ true) × (getD (listed s) k 0 ≡ suc j) × (getD (placesOf s) k 0 ≡ j)
+    → (j : ℕ) × (has s (suc j) ≡ true) × (getD (listed s) k 0 ≡ suc j) × (getD (placesOf s) k 0 ≡ j) × (count (has s) j ≡ k)
 place-of s k h hk =
     let g = entry (has s) 32 k (omega (arith, length-listed s h, length-nodes (has s) 32)) in
-    (g .0, g .2, g .3, places-at s k (omega (arith, size-most s h)) ∙ ap (λ (i : ℕ). i - 1) (g .3) ∙ omega arith)
+    (g .0, g .2, g .3, places-at s k (omega (arith, size-most s h)) ∙ ap (λ (i : ℕ). i - 1) (g .3) ∙ omega arith, g .4)
+
+-- the places as the code lists and counts them
+pub record Listed (set number : ℕ) (places : List ℕ) : Type 0 where
+  pub word : set < 2 ^ 32
+  pub lists : places ≡ placesOf set
+  pub count-is : number ≡ size set
+
+-- the node of turn i, whose place is w
+module _ (set number : ℕ) (places : List ℕ) (g : Listed set number places) (i w : ℕ) (turn : i < number) (place : w ≡ getD places i 0) where
+  pub nodeAt : (has set (suc w) ≡ true) × (count (has set) w ≡ i)
+  nodeAt =
+      let q = place-of set i (g .word) (omega (arith, g .count-is)) in
+      let same : w ≡ q .0 = place ∙ ap (λ (l : List ℕ). getD l i 0) (g .lists) ∙ q .3 in
+      (ap (λ (j : ℕ). has set (suc j)) same ∙ q .1, ap (count (has set)) same ∙ q .4)
 
 -- the places of all its nodes, at the front of a list that has them
 module _ (s : ℕ) (h : s < 2 ^ 32) (places : List ℕ) (told : places ≡ placesOf s) (width : ℕ) (all : width ≡ size s) where
   pub placed-length : length (take width places) ≡ width
   placed-length = length-take-le width places (omega (arith, ap length told ∙ length-places s, size-most s h))
 
-  pub placed-at : (k : ℕ) → k < width → getD (take width places) k 0 ≡ getD (placesOf s) k 0
-  placed-at k hk = getD-take width places k 0 hk ∙ ap (λ (l : List ℕ). getD l k 0) told
+  -- place k, and its node
+  pub placed-node : (k : ℕ) → k < width
+      → (j : ℕ) × (has s (suc j) ≡ true) × (getD (listed s) k 0 ≡ suc j) × (getD (take width places) k 0 ≡ j) × (count (has s) j ≡ k)
+  placed-node k hk =
+      let g = place-of s k h (omega arith) in
+      (g .0, g .1, g .2, getD-take width places k 0 hk ∙ ap (λ (l : List ℕ). getD l k 0) told ∙ g .3, g .4)
+
+  -- no place is that of a node outside the set
+  pub not-placed : (j : ℕ) → has s (suc j) ≡ false → (k : ℕ) → k < length (take width places) → getD (take width places) k 0 ≡ j → ⊥
+  not-placed j none k hk e =
+      let g = placed-node k (omega (arith, placed-length)) in
+      true≢false (sym (g .1) ∙ ap (λ (i : ℕ). has s (suc i)) (sym (g .3) ∙ e) ∙ none)
 
   -- their blocks are there in a list that has those of the nodes 1, .., n
   pub placed-inside : (b n size : ℕ) → ((i : ℕ) → has s i ≡ true → i ≤ n) → n * b ≤ size → (k : ℕ) → k < length (take width places)
       → suc (getD (take width places) k 0) * b ≤ size
   placed-inside b n size most room k hk =
-      let lt : k < width = omega (arith, placed-length) in
-      let g = place-of s k h (omega arith) in
-      subst⁻¹ (λ (j : ℕ). suc j * b ≤ size) (placed-at k lt ∙ g .3) (omega (arith, mul-le-mul-right b (most (suc (g .0)) (g .1))))
+      let g = placed-node k (omega (arith, placed-length)) in
+      subst⁻¹ (λ (j : ℕ). suc j * b ≤ size) (g .3) (omega (arith, mul-le-mul-right b (most (suc (g .0)) (g .1))))
 
 -- what places_of leaves of 32 zeros
 pub placing-zeros : (s : ℕ) (new : List ℕ) → s < 2 ^ 32 → Placing s (replicate 32 0) new → new ≡ placesOf s

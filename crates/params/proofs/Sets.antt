@@ -1,11 +1,11 @@
 -- Counts and rising lists of the nodes that pass a test, by induction on the number of nodes; then node sets, by their bits. Assumes nothing.
 use mathlib.Core.Path.{_≡_, refl, sym, ap, ap₂, _∙_, subst}
 use mathlib.Core.Logic.{_↔_, ⊎-elim}
-use mathlib.Core.Bool.{Bool, true, false, not, _&&_, and-true, true≢false}
+use mathlib.Core.Bool.{Bool, true, false, not, _&&_, true≢false}
 use mathlib.Core.List.{List, [], _++_, append-nil}
 use Prim.Native.Nat.{ℕ, zero, suc, _+_, _-_, _*_, _/_, _%_, _^_, min, _≤_, _<_, zero-le}
-use native.Mathlib.Nat.{not-suc-le-zero, le-refl, le-trans, zero-lt-suc, lt-of-lt-of-le, lt-of-le-of-lt, one-mul, zero-min, min-le-left}
-use native.Mathlib.Nat.{sub-zero, zero-sub, suc-sub-suc, mod-one, mod-lt, mod-eq-of-lt, div-eq-of-lt, div-lt-iff-lt-mul}
+use native.Mathlib.Nat.{not-suc-le-zero, le-refl, zero-lt-suc, lt-of-lt-of-le, lt-of-le-of-lt, one-mul, zero-min, min-le-left}
+use native.Mathlib.Nat.{mod-one, mod-lt, mod-eq-of-lt, div-eq-of-lt, div-lt-iff-lt-mul}
 use native.Mathlib.Numerals.{one-add}
 use native.Mathlib.Omega.{arith}
 use native.Mathlib.Decide.{le-ind}
@@ -13,14 +13,13 @@ use lib.Arith.{lt-one}
 use lib.Bits.{bitAnd, and-step, and-shr, and-le-l}
 use lib.Count.{ones, ones-cat, ones-le}
 use lib.Dec.{leb, eqb}
-use lib.ListN.{length, getD, drop, replicate, length-append, List·getD-append, List·getD-eq-default}
+use lib.ListN.{length, getD, length-append, List·getD-append}
 use lib.Pow.{pow-pos, pow-mono, shr-lt, mod-pow-add}
-use lib.Seq.{getD-at, getD-append-add}
-use borrow.Author.Tests.{ltb-true, eqb-true, eqb-false, lt-ltb, leb-true, le-leb, lt-leb, eq-eqb}
+use lib.Seq.{getD-at}
+use borrow.Author.Tests.{ltb-true, eqb-true, eqb-false, lt-ltb, le-leb, lt-leb, eq-eqb}
 use Rattle.base.specs.Seq.{one}
 use Rattle.base.proofs.Cases.{lt-or}
-use Rattle.base.proofs.Seq.{zeros-at}
-use Rattle.params.specs.Nodes.{has, size, within, disjoint, count, only, nodes, outside, listed, Listing}
+use Rattle.params.specs.Nodes.{has, size, within, disjoint, count, only, nodes, outside, listed}
 
 -- ---- one node
 
@@ -93,6 +92,14 @@ rising f n i j h hj =
     let q = entry f n j hj in
     ⊎-elim (λ l. omega (arith, p .3, q .3, l)) (λ g. absurd (omega (arith, count-mono f (q .0) (p .0) g, p .4, q .4)))
     (lt-or (p .0) (q .0))
+
+-- two nodes of one rank are one
+pub same-rank : (f : ℕ → Bool) (i j : ℕ) → f (suc i) ≡ true → f (suc j) ≡ true → count f i ≡ count f j → i ≡ j
+same-rank f i j hi hj e =
+    let p = node-at-rank f (suc (i + j)) i (omega arith) hi in
+    let q = node-at-rank f (suc (i + j)) j (omega arith) hj in
+    let s : suc i ≡ suc j = sym p ∙ ap (λ (k : ℕ). getD (nodes f (suc (i + j))) k 0) e ∙ q in
+    omega (arith, s)
 
 -- equal entries have equal places
 pub distinct : (f : ℕ → Bool) (n i j : ℕ) → i < count f n → j < count f n
@@ -196,6 +203,10 @@ has-le k s zero h e = zero-le
 has-le k s (suc j) h e =
     ⊎-elim (λ l. l) (λ g. absurd (true≢false (sym e ∙ has-past k s j h g))) (lt-or j k)
 
+-- where a set's node stands in its list
+pub rank-inside : (s j : ℕ) → s < 2 ^ 32 → has s (suc j) ≡ true → count (has s) j < size s
+rank-inside s j word e = omega (arith, rank-lt (has s) 32 j (has-le 32 s (suc j) word e) e, size-count 32 s word)
+
 bit-no : (s j : ℕ) → has s (suc j) ≡ false → s / 2 ^ j % 2 ≡ 0
 unfolding has
 bit-no s j e = let ne = eqb-false (s / 2 ^ j % 2) 1 e in omega arith
@@ -285,32 +296,3 @@ low-same (suc k) l r h =
 -- sets with the same nodes are equal
 pub same-set : (l r : ℕ) → l < 2 ^ 32 → r < 2 ^ 32 → ((i : ℕ) → has l i ≡ has r i) → l ≡ r
 same-set l r hl hr h = sym (mod-eq-of-lt hl) ∙ low-same 32 l r h ∙ mod-eq-of-lt hr
-
--- the set of the nodes of 1..n outside another, as `outside` answers it
-module _ (n s o : ℕ) (small : n ≤ 32) (is : (i : ℕ) → has o i ≡ (outside n s i && leb i 32)) where
-  pub outside-has : (i : ℕ) → has o i ≡ outside n s i
-  outside-has i =
-      is i ∙ narrow (leb 1 i) (leb i n) (not (has s i)) (leb i 32) (λ e. le-leb i 32 (le-trans (leb-true i n e) small))
-    where
-      narrow : (a b c d : Bool) → (b ≡ true → d ≡ true) → (((a && b) && c) && d) ≡ ((a && b) && c)
-      narrow false b c d h = refl
-      narrow true false c d h = refl
-      narrow true true c d h = ap (λ (x : Bool). c && x) (h refl) ∙ and-true c
-
-  pub outside-size : o < 2 ^ 32 → within n s ≡ true → size o ≡ n - size s
-  outside-size ho e =
-      let inside : within n o ≡ true = within-has n o ho .1 (λ i hi. up-to i (sym (outside-has i) ∙ hi)) in
-      within-size n o inside ∙ count-ext (has o) (outside n s) n (λ j hj. outside-has (suc j)) ∙ count-outside n s
-      ∙ ap (λ (m : ℕ). n - m) (sym (within-size n s e))
-    where
-      up-to : (i : ℕ) → outside n s i ≡ true → i ≤ n
-      up-to i e = ⊎-elim (λ l. absurd (past i l e)) (λ g. g) (lt-or n i)
-        where
-          past : (i : ℕ) → n < i → outside n s i ≡ true → ⊥
-          past i l e =
-              true≢false
-              (sym e ∙ ap (λ (b : Bool). (leb 1 i && b) && not (has s i)) (lt-leb i n l) ∙ gone (leb 1 i) (not (has s i)))
-            where
-              gone : (a c : Bool) → ((a && false) && c) ≡ false
-              gone true c = refl
-              gone false c = refl

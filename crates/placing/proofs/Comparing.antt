@@ -12,9 +12,9 @@ use Rattle.base.proofs.Cases.{eq-or}
 use Rattle.base.specs.Parts.{partOf}
 use Rattle.base.proofs.Parts.{length-partOf, partOf-at}
 use Rattle.params.specs.Nodes.{has, size, count}
-use Rattle.params.proofs.Sets.{rank-lt}
+use Rattle.params.proofs.Sets.{rank-lt, same-rank, rank-inside}
+use Rattle.params.proofs.Placing.{Listed, nodeAt}
 use Rattle.placing.specs.Placed.{Puttable, Alike, ComparePost}
-use Rattle.placing.proofs.Ranks.{rank-inside, same-rank, Listed, nodeAt}
 use Rattle.placing.proofs.Turns.{block-ends, fresh-ends}
 
 -- the first t nodes' blocks are fresh's

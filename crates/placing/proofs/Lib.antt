@@ -1,5 +1,3 @@
 pub mod Tests
-pub mod Ranks
-pub mod Outside
 mod Turns
 mod Comparing

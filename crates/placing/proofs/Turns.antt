@@ -1,5 +1,5 @@
 -- A loop over a set's nodes that writes their blocks one after the other: what the codeword holds after t of them. Assumes nothing.
-use mathlib.Core.Path.{_≡_, refl, sym, ap, _∙_, subst⁻¹}
+use mathlib.Core.Path.{_≡_, refl, sym, ap, _∙_}
 use mathlib.Core.Logic.{⊎-elim}
 use mathlib.Core.Bool.{true, false, true≢false}
 use mathlib.Core.List.{List}
@@ -13,10 +13,11 @@ use Rattle.base.proofs.Seq.{zeros-at}
 use Rattle.base.specs.Parts.{partOf, putBlock}
 use Rattle.base.proofs.Parts.{length-partOf, partOf-at, putBlock-here, putBlock-other, putBlock-length, row-ends}
 use Rattle.params.specs.Nodes.{has, size, count}
+use Rattle.params.proofs.Sets.{same-rank, rank-inside}
+use Rattle.params.proofs.Placing.{Listed, nodeAt}
 use Rattle.blocks.specs.Bytes.{over}
 use Rattle.blocks.proofs.Laws.{over-same}
 use Rattle.placing.specs.Placed.{BlocksIn, Puttable, PutPost, ClearPost}
-use Rattle.placing.proofs.Ranks.{rank-inside, same-rank, Listed, nodeAt}
 
 -- the node of turn i, whose place is w: its block ends within the codeword, and block i within fresh
 module _ (set number : ℕ) (places : List ℕ) (g : Listed set number places) (i w : ℕ) (turn : i < number) (place : w ≡ getD places i 0) (b : ℕ) where

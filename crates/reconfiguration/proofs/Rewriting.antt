@@ -20,7 +20,8 @@ use Rattle.params.specs.Nodes.{has, size}
 use Rattle.params.specs.Params.{slackParts, reshaped}
 use Rattle.params.specs.declared.Params.{Params}
 use Rattle.params.specs.declared.Shape.{Shape}
-use Rattle.params.proofs.Sets.{range-yes, range-no, within-has, outside-has, outside-size}
+use Rattle.params.proofs.Sets.{range-yes, range-no, within-has}
+use Rattle.params.proofs.Outside.{Outside, outside-has, outside-le, outside-node, outside-size}
 use Rattle.gates.specs.Valid.{ReconfigureAccepted}
 use Rattle.gates.proofs.Valid.{working-is}
 use Rattle.code.specs.Code.{point, block}
@@ -29,7 +30,6 @@ use Rattle.code.proofs.Additivity.{block-byte}
 use Rattle.code.proofs.Pairs.{slack-exists, written-leaves, pair-exists, from-reads}
 use Rattle.blocks.specs.Bytes.{over}
 use Rattle.blocks.proofs.Laws.{over-length, over-at}
-use Rattle.placing.proofs.Outside.{Outside, outside-le, outside-node}
 use Rattle.extension.specs.Blocks.{Recomputable, RecomputePost, CompleteAsks, CompletePost}
 use Rattle.reconfiguration.specs.Core.{Reconfigurable, Rewritten}
 

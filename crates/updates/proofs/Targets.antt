@@ -1,7 +1,7 @@
 -- Where the rows of a change go: one after the other, they are the differences; to the nodes' own blocks, they make the update. Here the gates' facts become what
 -- the rows ask, and there is a slack with which the change vanishes outside W. Assumes nothing.
 use mathlib.Core.Path.{_≡_, sym, ap, ap₂, _∙_}
-use mathlib.Core.Bool.{true, true≢false}
+use mathlib.Core.Bool.{true≢false}
 use mathlib.Core.List.{List}
 use Prim.Native.Nat.{ℕ, suc, _+_, _*_, _^_, _≤_, _<_}
 use native.Mathlib.Nat.{le-refl}
@@ -11,10 +11,10 @@ use Rattle.base.specs.Seq.{cell}
 use Rattle.base.proofs.Seq.{zeros-at}
 use Rattle.field.specs.Field.{add}
 use Rattle.field.proofs.Addition.{add-zero-left, add-zero-right}
-use Rattle.params.specs.Nodes.{has, count, listed, inOrder, placesOf}
+use Rattle.params.specs.Nodes.{has, count, inOrder, placesOf}
 use Rattle.params.specs.declared.Params.{Params}
 use Rattle.params.proofs.Sets.{rank-lt, node-at-rank, size-count, distinct, within-has}
-use Rattle.params.proofs.Placing.{place-of, placed-length, placed-at, placed-inside}
+use Rattle.params.proofs.Placing.{placed-length, placed-node, placed-inside}
 use Rattle.gates.specs.Valid.{DeltaAccepted, UpdateAccepted}
 use Rattle.code.specs.Code.{block}
 use Rattle.code.specs.Calls.{Differences, Updated}
@@ -85,12 +85,6 @@ module _ (a : Params) (to : ℕ) (word : to < 2 ^ 32) (d old places : List ℕ) 
             (omega (arith, ok .codeword-length));
       }
 
-  -- the node whose block is named at place t
-  node-of : (t : ℕ) → t < a .w → (j : ℕ) × (has to (suc j) ≡ true) × (getD (listed to) t 0 ≡ suc j) × (getD (take (a .w) places) t 0 ≡ j)
-  node-of t h =
-      let g = place-of to t word (omega (arith, ok .to-size)) in
-      (g .0, g .1, g .2, placed-at to word places told (a .w) (sym (ok .to-size)) t h ∙ g .3)
-
   pub updated : (new : List ℕ) → Spread a d to to (take (a .w) places) old new → Updated a old d to new
   updated new s =
       let v = spread-exists a to (ok .valid) (ok .to-within) (ok .to-size) d in
@@ -102,13 +96,13 @@ module _ (a : Params) (to : ℕ) (word : to < 2 ^ 32) (d old places : List ℕ) 
             let low : j < 32 = omega (arith, ok .valid .shape .n-high) in
             let t = count (has to) j in
             let rank : t < a .w = omega (arith, rank-lt (has to) 32 j low h, size-count 32 to word, ok .to-size) in
-            let g = node-of t rank in
+            let g = placed-node to word places told (a .w) (sym (ok .to-size)) t rank in
             let here : getD (take (a .w) places) t 0 ≡ j = omega (arith, g .2, g .3, node-at-rank (has to) 32 j low h) in
             s .added (v .0) (v .1) j p hp
             ∙ ap (add (cell (a .b) old j p))
             (arriving-one (take (a .w) places) _ j (length (take (a .w) places)) t (omega (arith, many)) here
             (λ i hi ne x.
-            let f = node-of i (omega (arith, many)) in
+            let f = placed-node to word places told (a .w) (sym (ok .to-size)) i (omega (arith, many)) in
             ne (distinct (has to) 32 i t (omega (arith, many, ok .to-size, size-count 32 to word)) (omega (arith, ok .to-size, size-count 32 to word))
             (f .2 ∙ omega (arith, f .3) ∙ sym (node-at-rank (has to) 32 j low h))))
             ∙ ap (λ (i : ℕ). block a d (v .0) i p) (node-at-rank (has to) 32 j low h));
@@ -117,7 +111,7 @@ module _ (a : Params) (to : ℕ) (word : to < 2 ^ 32) (d old places : List ℕ) 
             ∙ ap (add (cell (a .b) old j p))
             (arriving-none (take (a .w) places) _ j (length (take (a .w) places))
             (λ i hi x.
-            let f = node-of i (omega (arith, many)) in
+            let f = placed-node to word places told (a .w) (sym (ok .to-size)) i (omega (arith, many)) in
             let same : f .0 ≡ j = sym (f .3) ∙ x in
             true≢false (sym (f .1) ∙ ap (λ (k : ℕ). has to (suc k)) same ∙ h)))
             ∙ add-zero-right _;

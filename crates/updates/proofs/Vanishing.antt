@@ -1,13 +1,11 @@
 -- The rows that extend a change, applied to it, give what it makes of the takers' blocks: at each byte place the change's polynomial is 00 at the nodes outside
 -- W, so that the leading rows alone take it to its values at the takers. Assumes nothing.
 use mathlib.Core.Path.{_≡_, sym, ap, ap₂, _∙_, subst}
-use mathlib.Core.Bool.{false, not, _&&_}
+use mathlib.Core.Bool.{false}
 use mathlib.Core.List.{List, _++_}
 use Prim.Native.Nat.{ℕ, suc, _-_, _*_, _^_, _≤_, _<_}
 use native.Mathlib.Nat.{le-refl}
 use native.Mathlib.Omega.{arith}
-use borrow.Author.Tests.{not-true}
-use lib.Dec.{leb}
 use lib.ListN.{length, getD, take}
 use lib.Seq.{take-length}
 use Rattle.base.specs.Seq.{cell}
@@ -17,12 +15,12 @@ use Rattle.field.proofs.Addition.{add-zero-right}
 use Rattle.field.proofs.Multiplication.{mul-zero-right}
 use Rattle.field.proofs.FiniteSum.{sum-zeros}
 use Rattle.interpolation.specs.Polynomial.{evaluate}
-use Rattle.params.specs.Nodes.{has, size, outside, listed, inOrder}
+use Rattle.params.specs.Nodes.{has, size, listed, inOrder}
 use Rattle.params.specs.Params.{slackParts}
 use Rattle.params.specs.declared.Params.{Params}
-use Rattle.base.proofs.Questions.{both-known, both-le}
 use Rattle.field.proofs.Bytes.{cell-byte}
-use Rattle.params.proofs.Sets.{size-count, entry, outside-has, outside-size}
+use Rattle.params.proofs.Sets.{size-count, entry}
+use Rattle.params.proofs.Outside.{Outside, outside-node, outside-size}
 use Rattle.code.specs.Code.{point, block}
 use Rattle.code.specs.Points.{pointAt, pointsOf}
 use Rattle.code.specs.Calls.{Vanishes}
@@ -34,7 +32,7 @@ use Rattle.node_rows.proofs.Laws as rows
 use Rattle.updates.specs.Spreading.{Spreadable, Spread}
 
 module _ (a : Params) (d targets old : List ℕ) (to takers other : ℕ) (other-word : other < 2 ^ 32)
-    (ok : Spreadable a (length d) to takers targets (length old)) (is : (i : ℕ) → has other i ≡ (outside (a .n) to i && leb i 32)) where
+    (ok : Spreadable a (length d) to takers targets (length old)) (is : Outside (a .n) to other) where
   -- as many nodes outside W as the slack has parts
   others : size other ≡ slackParts a
   unfolding slackParts
@@ -51,9 +49,8 @@ module _ (a : Params) (d targets old : List ℕ) (to takers other : ℕ) (other-
   other-at : (o : ℕ) → o < size other → (j : ℕ) × (j < a .n) × (has to (suc j) ≡ false) × (getD (listed other) o 0 ≡ suc j)
   other-at o h =
       let g = entry (has other) 32 o (omega (arith, size-count 32 other other-word)) in
-      let y = both-known (leb 1 (suc (g .0)) && leb (suc (g .0)) (a .n)) (not (has to (suc (g .0))))
-      (sym (outside-has (a .n) to other (ok .n-high) is (suc (g .0))) ∙ g .2) in
-      (g .0, both-le 1 (suc (g .0)) (suc (g .0)) (a .n) (y .0) .1, not-true (has to (suc (g .0))) (y .1), g .3)
+      let y = outside-node (a .n) to other (ok .n-high) is (g .0) (g .2) in
+      (g .0, y .0, y .1, g .3)
 
   module _ (leading gains : List ℕ) (extends : Extends (a .k) (pointsOf other) (pointsOf takers) leading gains) (bytes : Bytes d) (v : List ℕ) (vanishes : Vanishes a d to v) where
     -- the change's polynomial at byte place p

@@ -6,9 +6,8 @@ use borrow.Author.Needs.{needs}
 use denote.Ref.{now}
 use lib.ListN.{length}
 use Rattle.params.proofs.Sets.{size-most}
-use Rattle.params.proofs.Placing.{placing-zeros}
+use Rattle.params.proofs.Placing.{Listed, placing-zeros}
 use Rattle.placing.specs.Placed.{BlocksIn}
-use Rattle.placing.proofs.Ranks.{Listed}
 use Rattle.placing.proofs.Turns.{block-ends, Written, written-none, clear-turn, clear-done, clear-idle}
 use Rattle.placing.proofs.clear_blocks.Statement.{statement}
 use Rattle.placing.proofs.clear_blocks.Tie as tie

@@ -8,10 +8,9 @@ use denote.Ref.{now}
 use lib.ListN.{length}
 use Rattle.params.specs.Nodes.{size}
 use Rattle.params.proofs.Sets.{size-most, has-le}
-use Rattle.params.proofs.Placing.{placing-zeros}
+use Rattle.params.proofs.Placing.{Listed, nodeAt, placing-zeros}
 use Rattle.placing.specs.Placed.{Puttable}
 use Rattle.placing.proofs.Tests.{told-equal, told-other}
-use Rattle.placing.proofs.Ranks.{Listed, nodeAt}
 use Rattle.placing.proofs.Turns.{block-ends, fresh-ends}
 use Rattle.placing.proofs.Comparing.{Passed, passed-none, passed-more, passed-all, found, compare-idle}
 use Rattle.placing.proofs.first_other.Statement.{statement}

@@ -9,10 +9,9 @@ use borrow.Author.Tests.{not-true, not-false}
 use Rattle.base.specs.Seq.{cell}
 use Rattle.params.specs.Nodes.{size}
 use Rattle.params.proofs.Sets.{size-most}
-use Rattle.params.proofs.Placing.{placing-zeros}
+use Rattle.params.proofs.Placing.{Listed, placing-zeros}
 use Rattle.placing.specs.Placed.{Puttable}
 use Rattle.placing.proofs.Tests.{told-equal, told-other}
-use Rattle.placing.proofs.Ranks.{Listed}
 use Rattle.placing.proofs.Turns.{block-ends, fresh-ends, Written, written-none, put-turn, put-done, put-idle}
 use Rattle.placing.proofs.put_blocks.Statement.{statement}
 use Rattle.placing.proofs.put_blocks.Tie as tie
