@@ -1,4 +1,3 @@
 mod Values
-mod Targets
 mod PairBlocks
 mod Completing

@@ -17,14 +17,14 @@ use Rattle.interpolation.proofs.Rows.{join, join-left, join-right, join-byte}
 use Rattle.params.specs.Nodes.{has, size, count, listed, placesOf, inOrder}
 use Rattle.params.specs.Params.{slackParts, working}
 use Rattle.params.specs.declared.Params.{Params}
-use Rattle.params.proofs.Sets.{has-le, node-at-rank, size-most, rank-inside}
+use Rattle.params.proofs.Sets.{size-most}
 use Rattle.params.proofs.Placing.{placed-length, placed-node}
 use Rattle.code.specs.Code.{point, block}
 use Rattle.kernels.proofs.Laws.{block-inside}
 use Rattle.coefficients.proofs.Laws.{first-length, first-inside}
+use Rattle.node_rows.proofs.Targets.{arriving-ordered}
 use Rattle.extension.specs.Blocks.{Recomputable, RecomputePost}
 use Rattle.extension.specs.Extending.{Extendable, Extended}
-use Rattle.extension.proofs.Targets.{arriving-ordered}
 
 -- the pair's coefficients at byte place p, message before slack
 coeffAt : Params → List ℕ → List ℕ → ℕ → ℕ → ℕ
@@ -72,7 +72,6 @@ module _ (from targets q rows : ℕ) (places order : List ℕ) (word : from < 2 
         record {
           same = c .same ∙ same;
           written = λ _ x v gives j p e hp.
-              let rank = rank-inside targets j word′ e in
               c .added p (coeffAt a x v p) hp
               (join-byte (a .k) _ _ (λ j. cell-byte (a .b) x j p (gives .pair .message .bytes))
               (λ j. cell-byte (a .b) v j p (gives .pair .slack .bytes)))
@@ -84,9 +83,8 @@ module _ (from targets q rows : ℕ) (places order : List ℕ) (word : from < 2 
               (count (has targets) j)
               ∙ ap₂ add
               (ap (λ (l : List ℕ). getD l (count (has targets) j * a .b + p) 0) cleared ∙ zeros-at (length old) (count (has targets) j * a .b + p))
-              (arriving-ordered order ordered rows few _ (count (has targets) j) (omega arith))
+              (arriving-ordered targets word′ rows hr (λ i. evaluate 0 (size from) (λ t. cell (a .b) message t p) (coeffAt a x v p) (point i)) j order ordered e)
               ∙ add-zero-left _
-              ∙ block-value a x v (getD (listed targets) (count (has targets) j) 0) p (size from) _ (ok .full)
-              ∙ ap (λ (i : ℕ). block a x v i p) (node-at-rank (has targets) 32 j (has-le 32 targets (suc j) word′ e) e);
+              ∙ block-value a x v (suc j) p (size from) _ (ok .full);
           kept = λ none. absurd (none ok);
         }
