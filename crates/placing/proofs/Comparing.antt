@@ -13,9 +13,9 @@ use Rattle.base.specs.Parts.{partOf}
 use Rattle.base.proofs.Parts.{length-partOf, partOf-at}
 use Rattle.params.specs.Nodes.{has, size, count}
 use Rattle.params.proofs.Sets.{rank-lt, same-rank, rank-inside}
-use Rattle.params.proofs.Placing.{Listed, nodeAt}
+use Rattle.params.proofs.Placing.{nodeAt}
 use Rattle.placing.specs.Placed.{Puttable, Alike, ComparePost}
-use Rattle.placing.proofs.Turns.{block-ends, fresh-ends}
+use Rattle.placing.proofs.Turns.{Placeable, turn-ends}
 
 -- the first t nodes' blocks are fresh's
 abbrev pub Passed : ℕ → ℕ → List ℕ → List ℕ → ℕ → Type 0
@@ -39,10 +39,10 @@ compare-idle b set codeword fresh none =
     record { equal = λ ok. absurd (none ok); lowest = λ j z. absurd (omega (arith, z)); none = λ _. refl }
 
 -- one comparison: block i of fresh with that of the node with place w
-module _ (b set number : ℕ) (places codeword fresh : List ℕ) (g : Listed set number places) (h : Puttable b set (length codeword) (length fresh)) (i w : ℕ)
-    (turn : i < number) (place : w ≡ getD places i 0) (s : Passed b set codeword fresh i) where
+module _ (b set number : ℕ) (places codeword fresh : List ℕ) (k : Placeable b set number places (length codeword) (length fresh)) (i w : ℕ) (turn : i < number)
+    (place : w ≡ getD places i 0) (s : Passed b set codeword fresh i) where
   at : (has set (suc w) ≡ true) × (count (has set) w ≡ i)
-  at = nodeAt set number places g i w turn place
+  at = nodeAt set number places (k .listed) i w turn place
 
   block-at : (p : ℕ) → p < b → getD (partOf b i fresh) p 0 ≡ cell b fresh (count (has set) w) p
   block-at p hp = partOf-at b i fresh p hp ∙ ap (λ (r : ℕ). cell b fresh r p) (sym (at .1))
@@ -71,11 +71,12 @@ module _ (b set number : ℕ) (places codeword fresh : List ℕ) (g : Listed set
               subst (λ (k : ℕ). Alike b set codeword fresh k → ⊥) same unlike,
               λ k ek lt. s k ek (omega (arith, rank-lt (has set) w k (omega (arith, same)) ek, at .1)),
             );
-        none = λ lacks. absurd (lacks h);
+        none = λ lacks. absurd (lacks (k .fits));
       }
     where
       unlike : Alike b set codeword fresh w → ⊥
       unlike like =
-          let lf : length (partOf b i fresh) ≡ b = length-partOf b i fresh (fresh-ends set number places g i w turn place b (length fresh) (h .room)) in
-          let lc : length (partOf b w codeword) ≡ b = length-partOf b w codeword (block-ends set number places g i w turn place b (length codeword) (h .inside)) in
-          ne (ext-getD 0 _ _ (lf ∙ sym lc) (λ p hp. let k : p < b = omega arith in block-at p k ∙ like p k ∙ sym (partOf-at b w codeword p k)))
+          let both = turn-ends b set number places (length codeword) (length fresh) k i w turn place in
+          let lf : length (partOf b i fresh) ≡ b = length-partOf b i fresh (both .1) in
+          let lc : length (partOf b w codeword) ≡ b = length-partOf b w codeword (both .0) in
+          ne (ext-getD 0 _ _ (lf ∙ sym lc) (λ p hp. let h : p < b = omega arith in block-at p h ∙ like p h ∙ sym (partOf-at b w codeword p h)))

@@ -1,31 +1,63 @@
 -- A loop over a set's nodes that writes their blocks one after the other: what the codeword holds after t of them. Assumes nothing.
 use mathlib.Core.Path.{_≡_, refl, sym, ap, _∙_}
 use mathlib.Core.Logic.{⊎-elim}
-use mathlib.Core.Bool.{true, false, true≢false}
+use mathlib.Core.Bool.{Bool, true, false, not, true≢false}
 use mathlib.Core.List.{List}
 use Prim.Native.Nat.{ℕ, suc, _+_, _*_, _^_, _≤_, _<_}
 use native.Mathlib.Nat.{suc-mul}
 use native.Mathlib.Omega.{arith}
+use borrow.Author.Tests.{not-false}
+use lib.Dec.{eqb}
 use lib.ListN.{length, getD, replicate, length-replicate}
+use Rattle.base.specs.Decided.{Decided}
 use Rattle.base.specs.Seq.{cell}
 use Rattle.base.proofs.Cases.{eq-or}
 use Rattle.base.proofs.Seq.{zeros-at}
 use Rattle.base.specs.Parts.{partOf, putBlock}
 use Rattle.base.proofs.Parts.{length-partOf, partOf-at, putBlock-here, putBlock-other, putBlock-length, row-ends}
-use Rattle.params.specs.Nodes.{has, size, count}
+use Rattle.params.specs.Nodes.{has, size, count, Placing}
 use Rattle.params.proofs.Sets.{same-rank, rank-inside}
-use Rattle.params.proofs.Placing.{Listed, nodeAt}
+use Rattle.params.proofs.Placing.{Listed, nodeAt, placing-zeros}
 use Rattle.blocks.specs.Bytes.{over}
 use Rattle.blocks.proofs.Laws.{over-same}
 use Rattle.placing.specs.Placed.{BlocksIn, Puttable, PutPost, ClearPost}
+use Rattle.placing.proofs.Tests.{told-equal, told-other}
 
--- the node of turn i, whose place is w: its block ends within the codeword, and block i within fresh
-module _ (set number : ℕ) (places : List ℕ) (g : Listed set number places) (i w : ℕ) (turn : i < number) (place : w ≡ getD places i 0) (b : ℕ) where
-  pub block-ends : (codeword : ℕ) → BlocksIn b set codeword → w * b + b ≤ codeword
-  block-ends codeword h = h .1 w (nodeAt set number places g i w turn place .0)
+-- the node of turn i, whose place is w: its block ends within the codeword
+pub block-ends : (set number : ℕ) (places : List ℕ) → Listed set number places → (i w : ℕ) → i < number → w ≡ getD places i 0 → (b codeword : ℕ)
+    → BlocksIn b set codeword → w * b + b ≤ codeword
+block-ends set number places g i w turn place b codeword h = h .1 w (nodeAt set number places g i w turn place .0)
 
-  pub fresh-ends : (fresh : ℕ) → fresh ≡ size set * b → i * b + b ≤ fresh
-  fresh-ends fresh h = row-ends (size set) i b fresh (omega (arith, g .count-is)) (omega arith)
+-- ---- put and compare, once their tests are passed
+
+pub record Placeable (b set number : ℕ) (places : List ℕ) (codeword fresh : ℕ) : Type 0 where
+  pub listed : Listed set number places
+  pub fits : Puttable b set codeword fresh
+
+-- the two tests: fresh has one block for each node, and the codeword has the nodes' blocks
+module _ (b set number codeword fresh : ℕ) (product : Bool) (count-is : number ≡ size set) (told : product ≡ eqb fresh (number * b)) where
+  pub no-room : not product ≡ true → Puttable b set codeword fresh → ⊥
+  no-room taken ok = told-other _ _ _ told taken (ok .room ∙ ap (λ (m : ℕ). m * b) (sym count-is))
+
+  pub placeable : not product ≡ false → (inside : Bool) → Decided (BlocksIn b set codeword) inside → not inside ≡ false → set < 2 ^ 32 → (places : List ℕ)
+      → Placing set (replicate 32 0) places → Placeable b set number places codeword fresh
+  placeable left inside decided kept word places placed =
+      record {
+        listed = record { word = word; lists = placing-zeros _ _ word placed; count-is = count-is };
+        fits =
+            record {
+              inside = decided .holds (not-false inside kept);
+              room = told-equal _ _ _ told left ∙ ap (λ (m : ℕ). m * b) count-is;
+            };
+      }
+
+-- both blocks of a turn end within their lists
+pub turn-ends : (b set number : ℕ) (places : List ℕ) (codeword fresh : ℕ) → Placeable b set number places codeword fresh → (i w : ℕ) → i < number
+    → w ≡ getD places i 0 → (w * b + b ≤ codeword) × (i * b + b ≤ fresh)
+turn-ends b set number places codeword fresh k i w turn place = (
+  block-ends set number places (k .listed) i w turn place b codeword (k .fits .inside),
+  row-ends (size set) i b fresh (omega (arith, k .listed .count-is)) (omega (arith, k .fits .room)),
+)
 
 -- ---- blocks written over others
 
@@ -71,13 +103,14 @@ written-more b set f t w old new part e rank held hl hf s =
 
 -- ---- put: block i of fresh over that of the node with place w
 
-module _ (b set number : ℕ) (places fresh old : List ℕ) (g : Listed set number places) (h : Puttable b set (length old) (length fresh)) where
+module _ (b set number : ℕ) (places fresh old : List ℕ) (k : Placeable b set number places (length old) (length fresh)) where
   pub put-turn : (new : List ℕ) (i w : ℕ) → i < number → w ≡ getD places i 0 → Written b set (cell b fresh) i old new → (part : List ℕ)
       → part ≡ over (partOf b w new) (partOf b i fresh) → Written b set (cell b fresh) (i + 1) old (putBlock b w new part)
   put-turn new i w turn place s part e =
-      let at = nodeAt set number places g i w turn place in
-      let ends : w * b + b ≤ length new = omega (arith, block-ends set number places g i w turn place b (length old) (h .inside), s .same) in
-      let lf : length (partOf b i fresh) ≡ b = length-partOf b i fresh (fresh-ends set number places g i w turn place b (length fresh) (h .room)) in
+      let at = nodeAt set number places (k .listed) i w turn place in
+      let both = turn-ends b set number places (length old) (length fresh) k i w turn place in
+      let ends : w * b + b ≤ length new = omega (arith, both .0, s .same) in
+      let lf : length (partOf b i fresh) ≡ b = length-partOf b i fresh (both .1) in
       let whole : part ≡ partOf b i fresh = e ∙ over-same _ _ (lf ∙ sym (length-partOf b w new ends)) in
       written-more b set (cell b fresh) i w old new part (at .0) (at .1) ends (ap length whole ∙ lf)
       (λ p hp. ap (λ (l : List ℕ). getD l p 0) whole ∙ partOf-at b i fresh p hp) s
@@ -86,9 +119,9 @@ module _ (b set number : ℕ) (places fresh old : List ℕ) (g : Listed set numb
   put-done new t all s =
       record {
         same = s .same;
-        put = λ ok. written-all b set (cell b fresh) t old new (g .word) (omega (arith, g .count-is)) s;
+        put = λ ok. written-all b set (cell b fresh) t old new (k .listed .word) (omega (arith, k .listed .count-is)) s;
         others = s .others;
-        kept = λ none. absurd (none h);
+        kept = λ none. absurd (none (k .fits));
       }
 
 pub put-idle : (b set : ℕ) (fresh l : List ℕ) → (Puttable b set (length l) (length fresh) → ⊥) → PutPost b set fresh l l
