@@ -5,11 +5,8 @@ use mathlib.Core.List.{List}
 use Prim.Native.Nat.{ℕ}
 use lib.ListN.{length, getD}
 use Rattle.base.specs.Seq.{tabulate}
-use Rattle.field.specs.Field.{add}
-
--- xs + ys, byte by byte; a byte that ys does not have counts as 00
-unfoldable pub plus : List ℕ → List ℕ → List ℕ
-plus xs ys = tabulate (length xs) (λ p. add (getD xs p 0) (getD ys p 0))
+-- a sum of blocks is the sum of their bytes
+unfoldable pub use Rattle.field.specs.Field.{plus}
 
 -- ys laid over xs: byte p is that of ys, or that of xs where ys has none
 unfoldable pub over : List ℕ → List ℕ → List ℕ

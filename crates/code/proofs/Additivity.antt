@@ -2,10 +2,10 @@
 use mathlib.Core.Path.{_≡_, _∙_}
 use mathlib.Core.List.{List}
 use Prim.Native.Nat.{ℕ, _*_, _<_}
-use lib.ListN.{length, getD}
-use Rattle.base.specs.Seq.{tabulate, cell}
+use lib.ListN.{length}
+use Rattle.base.specs.Seq.{cell}
 use Rattle.base.proofs.Seq.{length-tabulate, getD-tabulate, cell-lt}
-use Rattle.field.specs.Field.{IsByte, add}
+use Rattle.field.specs.Field.{IsByte, add, plus}
 use Rattle.field.proofs.Addition.{add-byte}
 use Rattle.field.proofs.Bytes.{bytes-tabulate}
 use Rattle.interpolation.proofs.Evaluate.{evaluate-byte, evaluate-ext, evaluate-add}
@@ -18,9 +18,6 @@ unfolding block
 block-byte a x v i p = evaluate-byte (a .k) (slackParts a) _ _ (point i)
 
 -- ---- sums byte by byte
-
-unfoldable pub plus : List ℕ → List ℕ → List ℕ
-plus x d = tabulate (length x) (λ i. add (getD x i 0) (getD d i 0))
 
 module _ (b count : ℕ) (x d : List ℕ) where
   pub plus-parts : Parts b count x → Parts b count d → Parts b count (plus x d)

@@ -5,6 +5,7 @@ use mathlib.Core.List.{List}
 use Prim.Native.Nat.{ℕ, zero, suc, _+_, _*_, _/_, _%_, _^_, _<_}
 use lib.Bits.{bitXor}
 use lib.ListN.{length, getD}
+use Rattle.base.specs.Seq.{tabulate}
 
 -- "A field value is one byte."
 abbrev pub IsByte : ℕ → Type 0
@@ -17,6 +18,10 @@ Bytes xs = (i : ℕ) → IsByte (getD xs i 0)
 -- "The sum is exclusive or."
 unfoldable pub add : ℕ → ℕ → ℕ
 add a b = bitXor a b
+
+-- The sum of two lists, byte by byte; a byte that the second does not have counts as 00.
+unfoldable pub plus : List ℕ → List ℕ → List ℕ
+plus xs ys = tabulate (length xs) (λ i. add (getD xs i 0) (getD ys i 0))
 
 -- "Its bits are the coefficients of a polynomial over {0,1}, highest power first": the coefficient of z^i in p.
 unfoldable pub coeff : ℕ → ℕ → ℕ

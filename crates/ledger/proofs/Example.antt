@@ -8,7 +8,7 @@ use lib.Count.{ones}
 use lib.Dec.{leb, eqb}
 use Rattle.base.specs.Gate.{firstNo}
 use Rattle.base.specs.Seq.{cell, blocks, tabulate}
-use Rattle.field.specs.Field.{add, mul, pow}
+use Rattle.field.specs.Field.{add, plus, mul, pow}
 use Rattle.field.specs.FiniteSum.{sum}
 use Rattle.interpolation.specs.Polynomial.{evaluate}
 use Rattle.params.specs.Nodes.{has, size, within, disjoint, count}
@@ -19,7 +19,7 @@ use Rattle.code.specs.Calls.{Post}
 use Rattle.code.specs.declared.Verdict.the-variants.{Refused, Agrees}
 use Rattle.ledger.specs.Ledger.{Held, begun, Machine, opened, held, other, encode, update, repair, reconfigure, decode, delta, check, view, Call, Event}
 use Rattle.ledger.specs.Ledger.{call, damage, damagedWord, encoded, updated, repaired, reconfigured, decoded, differed, checked, viewed}
-use Rattle.ledger.specs.Ledger.{damaged, ledgerPlus, Run, done, more, History, Reading}
+use Rattle.ledger.specs.Ledger.{damaged, Run, done, more, History, Reading}
 use Rattle.ledger.proofs.Computed.{bytes, encode-by, decode-by, delta-by, update-by, repair-by, reconfigure-by, check-by, undamaged-by}
 use Rattle.ledger.proofs.Invariant.{given-in-force}
 use Rattle.ledger.proofs.Demand3.{reading-is-ledger}
@@ -139,7 +139,7 @@ refused q e = record { number = e; served = λ z. absurd (never q z); refused = 
 
 run : Run (begun small (0x06 ∷ 0x0a ∷ 0x0c ∷ [])) (opened small (0x07 ∷ [])) events left machine
 unfolding encodeGate decodeGate deltaGate updateGate repairGate reconfigureGate checkGate viewGate damageGate firstNo slackParts working
-    has size ones within disjoint count cell blocks tabulate block point evaluate sum add mul pow damagedWord ledgerPlus
+    has size ones within disjoint count cell blocks tabulate block point evaluate sum add mul pow damagedWord plus
 run =
     more {e = viewing} tt (λ _. given-in-force _) (viewed (0x0a ∷ []) refl (record { number = refl; served = λ _. refl; refused = λ ne. absurd (ne refl) })) (
     more {e = change} (tt, bytes (0x05 ∷ []) tt, omega arith) (λ _. given-in-force _)

@@ -9,7 +9,7 @@ use lib.ListN.{getD}
 use borrow.Author.Tests.{ltb-false, le-leb}
 use Rattle.base.specs.Seq.{cell}
 use Rattle.base.proofs.Seq.{cell-blocks}
-use Rattle.field.specs.Field.{add}
+use Rattle.field.specs.Field.{add, plus}
 use Rattle.field.proofs.Addition.{add-zero-right}
 use Rattle.params.specs.Nodes.{has}
 use Rattle.params.specs.Params.{reshaped}
@@ -19,8 +19,8 @@ use Rattle.params.specs.declared.Shape.{Shape}
 use Rattle.code.specs.Code.{Parts, block, Pair, Gives}
 use Rattle.code.specs.Calls.{Encoded, Updated, Repaired, Reconfigured}
 use Rattle.code.proofs.Pairs.{Reads, pair-blocks}
-use Rattle.code.proofs.Additivity.{plus, pair-plus, block-add}
-use Rattle.ledger.specs.Ledger.{damagedWord, ledgerPlus}
+use Rattle.code.proofs.Additivity.{pair-plus, block-add}
+use Rattle.ledger.specs.Ledger.{damagedWord}
 
 -- There is a slack with which the ledger gives the block of each undamaged node.
 pub record Sound (a : Params) (codeword ledger : List ℕ) (damaged : ℕ → Bool) : Type 0 where
@@ -39,8 +39,7 @@ module _ (a : Params) (codeword ledger : List ℕ) (damaged : ℕ → Bool) (i :
 
   -- A sum of pairs is a pair of sums; outside W the change is 00.
   pub update-sound : (d : List ℕ) (to : ℕ) (new : List ℕ) → Parts (a .b) (a .k) d → Updated a codeword d to new
-      → Sound a new (ledgerPlus ledger d) damaged
-  unfolding ledgerPlus plus
+      → Sound a new (plus ledger d) damaged
   update-sound d to new message u =
       record {
         slack = plus (i .slack) (u .slack);

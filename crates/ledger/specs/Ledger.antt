@@ -6,8 +6,8 @@ use mathlib.Core.List.{List, [], _∷_}
 use Prim.Native.Nat.{ℕ, zero, suc, _<_, _^_}
 use lib.Dec.{leb, eqb}
 use lib.ListN.{length, getD}
-use Rattle.base.specs.Seq.{tabulate, cell, blocks}
-use Rattle.field.specs.Field.{Bytes, add}
+use Rattle.base.specs.Seq.{cell, blocks}
+use Rattle.field.specs.Field.{Bytes, plus}
 use Rattle.params.specs.Nodes.{has}
 use Rattle.params.specs.Params.{reshaped}
 use Rattle.gates.specs.Gates.{viewGate, damageGate}
@@ -148,15 +148,11 @@ pub data Step (h : Held) : Event → ℕ → Held → Type 0 where
 
 -- ---- what an event does to the machine
 
--- "An accepted change adds its d to the ledger, byte by byte by the field's sum"
-unfoldable pub ledgerPlus : List ℕ → List ℕ → List ℕ
-ledgerPlus x d = tabulate (length x) (λ i. add (getD x i 0) (getD d i 0))
-
 -- The accepted event's effect, sentence by sentence; every other call alters nothing.
 abbrev pub effect : Machine → Event → Machine
 effect m (call g (encode x v)) = opened (g .params) x
--- "An accepted change adds its d to the ledger, .. also where W holds damaged traps; the set stays."
-effect m (call g (update d to)) = withLedger (ledgerPlus (m .ledger) d) m
+-- "An accepted change adds its d to the ledger, byte by byte by the field's sum, .. also where W holds damaged traps; the set stays."
+effect m (call g (update d to)) = withLedger (plus (m .ledger) d) m
 -- "An accepted rebuild takes L out of the set."
 effect m (call g (repair from lost)) = withDamaged (λ i. m .damaged i && not (has lost i)) m
 -- "An accepted rearrangement puts the new arrangement in force, makes the new message the ledger, and takes W', the traps above n and the dropped traps out

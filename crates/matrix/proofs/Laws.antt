@@ -22,7 +22,7 @@ use Rattle.field.proofs.Multiplication.{mul-add-right, mul-assoc, mul-byte, mul
 use Rattle.field.proofs.FiniteSum.{sum-byte, sum-ext, sum-zeros, sum-add, mul-sum, sum-mul, sum-exchange}
 use Rattle.matrix.specs.Matrix.{Vector, entry, apply, column, IsInverse, Singular, Dependent}
 use Rattle.matrix.specs.Invert.{number, sideAsked, lengthsAsked, inverseAsked, InvertPost}
-use Rattle.matrix.specs.Product.{unit, identity, product, plus}
+use Rattle.matrix.specs.Product.{unit, identity, product, vectorSum}
 use Rattle.matrix.specs.declared.Inversion.{Inversion}
 use Rattle.matrix.proofs.Identity.{unit-same, unit-byte, unit-sum, sum-unit}
 
@@ -87,10 +87,10 @@ apply-zeros s m =
     sum-zeros s _ (λ j hj. ap (mul (entry s m i j)) (getD-replicate {A = ℕ} s j 0 0 hj) ∙ mul-zero-right (entry s m i j))
     ∙ sym (getD-replicate {A = ℕ} s i 0 0 hi))
 
-pub apply-plus : (s : ℕ) (m u v : List ℕ) → apply s m (plus s u v) ≡ plus s (apply s m u) (apply s m v)
-unfolding plus
-apply-plus s m u v =
-    vector-ext s (apply s m (plus s u v)) (plus s (apply s m u) (apply s m v)) (length-apply s m (plus s u v)) (length-tabulate s _)
+pub apply-sum : (s : ℕ) (m u v : List ℕ) → apply s m (vectorSum s u v) ≡ vectorSum s (apply s m u) (apply s m v)
+unfolding vectorSum
+apply-sum s m u v =
+    vector-ext s (apply s m (vectorSum s u v)) (vectorSum s (apply s m u) (apply s m v)) (length-apply s m (vectorSum s u v)) (length-tabulate s _)
     (λ i hi.
     apply-tabulate s m (λ j. add (getD u j 0) (getD v j 0)) i hi
     ∙ sum-ext s (λ j. mul (entry s m i j) (add (getD u j 0) (getD v j 0))) (λ j. add (mul (entry s m i j) (getD u j 0)) (mul (entry s m i j) (getD v j 0)))
@@ -268,21 +268,21 @@ inverse-by-products s m n en hn right left =
 
 -- the multiples, with 1 for the column itself, are taken to zero
 pub dependent-singular : (s : ℕ) (m : List ℕ) (c : ℕ) → Dependent s m c → Singular s m
-unfolding plus
+unfolding vectorSum
 dependent-singular s m c d =
     record {
-      vector = plus s (d .multiples) own;
+      vector = vectorSum s (d .multiples) own;
       sized = vector-tabulate s _ (λ k. add-byte _ _ (d .sized .bytes k) (basis-vector s (d .place) .bytes k));
       nonzero =
           λ e.
-          let one : getD (plus s (d .multiples) own) (d .place) 0 ≡ 1 =
+          let one : getD (vectorSum s (d .multiples) own) (d .place) 0 ≡ 1 =
           getD-tabulate s _ (d .place) (d .within) ∙ ap₂ add (d .others) (basis-at s (d .place) (d .place) (d .within) ∙ unit-same (d .place)) ∙ add-zero-left 1 in
-          let none : getD (plus s (d .multiples) own) (d .place) 0 ≡ 0 =
+          let none : getD (vectorSum s (d .multiples) own) (d .place) 0 ≡ 0 =
           ap (λ (l : List ℕ). getD l (d .place) 0) e ∙ getD-replicate {A = ℕ} s (d .place) 0 0 (d .within) in
           omega arith;
       taken =
-          apply-plus s m (d .multiples) own
-          ∙ ap (plus s (apply s m (d .multiples))) (apply-basis s m (d .place) (d .within) bytes ∙ sym (d .combined))
+          apply-sum s m (d .multiples) own
+          ∙ ap (vectorSum s (apply s m (d .multiples))) (apply-basis s m (d .place) (d .within) bytes ∙ sym (d .combined))
           ∙ tabulate-ext s _ (λ i. 0) (λ i hi. add-self _) ∙ tabulate-zeros s;
     }
   where

@@ -21,5 +21,5 @@ unfoldable pub product : ℕ → List ℕ → List ℕ → List ℕ
 product s m n = blocks s s (λ i j. sum s (λ k. mul (entry s m i k) (entry s n k j)))
 
 -- The sum of two vectors of s entries.
-unfoldable pub plus : ℕ → List ℕ → List ℕ → List ℕ
-plus s u v = tabulate s (λ i. add (getD u i 0) (getD v i 0))
+unfoldable pub vectorSum : ℕ → List ℕ → List ℕ → List ℕ
+vectorSum s u v = tabulate s (λ i. add (getD u i 0) (getD v i 0))
