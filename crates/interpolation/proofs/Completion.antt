@@ -16,7 +16,7 @@ use Rattle.field.proofs.FiniteSum.{sum-byte}
 use Rattle.field.proofs.Bytes.{bytes-blocks, cell-byte}
 use Rattle.interpolation.specs.Polynomial.{evaluate, Points, Completes}
 use Rattle.interpolation.proofs.Horner.{sum-value, undo, Interpolates, interpolant}
-use Rattle.interpolation.proofs.Kernel.{rest-unique}
+use Rattle.interpolation.proofs.Uniqueness.{rest-unique}
 
 -- ---- one byte place
 

@@ -21,7 +21,7 @@ use Rattle.field.proofs.FiniteSum.{sum-ext, sum-byte, sum-zeros, sum-add, mul-s
 use Rattle.interpolation.specs.Polynomial.{Points}
 use Rattle.interpolation.specs.Lagrange.{value, times, product, unless, factor, widen, coefs, apart, basisValue}
 use Rattle.interpolation.proofs.Horner.{value-byte, sum-value, length-times, times-bytes, value-times, times-first, times-next}
-use Rattle.interpolation.proofs.Kernel.{kernel}
+use Rattle.interpolation.proofs.Uniqueness.{kernel}
 
 -- ---- finite products
 

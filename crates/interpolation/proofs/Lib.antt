@@ -1,7 +1,7 @@
 pub mod Rows
 pub mod Evaluate
 pub mod Horner
-pub mod Kernel
+pub mod Uniqueness
 pub mod Lagrange
 pub mod Completion
 pub mod Parts

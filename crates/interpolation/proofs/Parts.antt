@@ -14,7 +14,7 @@ use Rattle.field.proofs.Bytes.{bytes-take, bytes-drop, cell-byte}
 use Rattle.interpolation.specs.Polynomial.{evaluate, Points}
 use Rattle.interpolation.proofs.Rows.{join, join-left, join-right, join-byte}
 use Rattle.interpolation.proofs.Evaluate.{evaluate-join}
-use Rattle.interpolation.proofs.Kernel.{rest-unique}
+use Rattle.interpolation.proofs.Uniqueness.{rest-unique}
 use Rattle.interpolation.proofs.Completion.{completion-exists}
 
 -- the joined row w, all of it counted as remaining coefficients (y stands for no coefficient)

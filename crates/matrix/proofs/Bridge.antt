@@ -24,7 +24,7 @@ use Rattle.matrix.specs.Matrix.{Vector, entry, apply, column, IsInverse,
 use Rattle.matrix.specs.Product.{unit}
 use Rattle.matrix.specs.Working.{grid, Loaded, Kills, Units, Reduced, StuckAt}
 use Rattle.matrix.proofs.Identity.{unit-other, unit-sum, sum-unit}
-use Rattle.matrix.proofs.Kernel.{against}
+use Rattle.matrix.proofs.RowOperations.{against}
 use Rattle.matrix.proofs.Laws.{vector-tabulate, length-column, column-at, apply-entry, apply-tabulate, apply-is, apply-at}
 
 loaded-against : (s : ℕ) (m w : List ℕ) → Loaded s m w → (z : ℕ → ℕ) (i : ℕ) → i < s → IsByte (z (s + i))

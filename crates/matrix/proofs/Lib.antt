@@ -1,7 +1,7 @@
 pub mod Laws
 mod Identity
 mod Rewriting
-mod Kernel
+mod RowOperations
 mod Loading
 mod Bridge
 mod Answers

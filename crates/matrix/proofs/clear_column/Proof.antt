@@ -5,7 +5,7 @@ use native.Mathlib.Omega.{arith}
 use lib.ListN.{length}
 use borrow.Author.Needs.{needs}
 use Rattle.matrix.specs.Working.{Copy}
-use Rattle.matrix.proofs.Kernel.{ClearedBelow, below-none, below-more, below-all, still-ready, still-copy}
+use Rattle.matrix.proofs.RowOperations.{ClearedBelow, below-none, below-more, below-all, still-ready, still-copy}
 use Rattle.matrix.proofs.clear_column.Statement.{statement}
 use Rattle.matrix.proofs.clear_column.Tie as tie
 

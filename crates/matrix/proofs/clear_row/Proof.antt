@@ -3,7 +3,7 @@ use Prim.Native.Nat.{_+_, _*_}
 use native.Mathlib.Omega.{arith}
 use borrow.Author.Needs.{needs}
 use Rattle.matrix.proofs.Rewriting.{by-copy}
-use Rattle.matrix.proofs.Kernel.{cleared-none, cleared-added}
+use Rattle.matrix.proofs.RowOperations.{cleared-none, cleared-added}
 use Rattle.matrix.proofs.clear_row.Statement.{statement}
 use Rattle.matrix.proofs.clear_row.Tie as tie
 

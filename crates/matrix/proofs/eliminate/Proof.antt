@@ -6,7 +6,7 @@ use lib.ListN.{length}
 use borrow.Author.Needs.{needs}
 use Rattle.field.specs.Field.{Bytes}
 use Rattle.matrix.specs.Working.{Reduced, Found}
-use Rattle.matrix.proofs.Kernel.{reduced-none, reduced-then, reduced-less}
+use Rattle.matrix.proofs.RowOperations.{reduced-none, reduced-then, reduced-less}
 use Rattle.matrix.proofs.eliminate.Statement.{statement}
 use Rattle.matrix.proofs.eliminate.Tie as tie
 

@@ -3,7 +3,7 @@ use Prim.Native.Nat.{_+_, _*_}
 use native.Mathlib.Omega.{arith}
 use borrow.Author.Needs.{needs}
 use Rattle.matrix.proofs.Rewriting.{by-copy}
-use Rattle.matrix.proofs.Kernel.{raised-none, raised-added}
+use Rattle.matrix.proofs.RowOperations.{raised-none, raised-added}
 use Rattle.matrix.proofs.raise.Statement.{statement}
 use Rattle.matrix.proofs.raise.Tie as tie
 

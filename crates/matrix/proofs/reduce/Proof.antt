@@ -1,7 +1,7 @@
 -- Row j gets a pivot, the pivot becomes 1, the column is cleared: each step keeps the kernel and the columns before. Assumes nothing.
 use native.Mathlib.Omega.{arith}
 use borrow.Author.Needs.{needs}
-use Rattle.matrix.proofs.Kernel.{scaled-pivot, reduced-then}
+use Rattle.matrix.proofs.RowOperations.{scaled-pivot, reduced-then}
 use Rattle.matrix.proofs.reduce.Statement.{statement}
 use Rattle.matrix.proofs.reduce.Tie as tie
 
