@@ -1,7 +1,7 @@
 -- What the private functions ask and do. No exported contract rests on these names. Assumes nothing.
 use mathlib.Core.Path.{_≡_}
 use mathlib.Core.List.{List}
-use Prim.Native.Nat.{ℕ, suc, _+_, _*_, _≤_, _<_}
+use Prim.Native.Nat.{ℕ, suc, _*_, _≤_, _<_}
 use lib.ListN.{length, getD}
 use Rattle.base.specs.Seq.{cell}
 use Rattle.field.specs.Field.{IsByte, add}

@@ -1,3 +1,2 @@
-pub mod Tests
 mod Turns
 mod Comparing

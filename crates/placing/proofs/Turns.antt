@@ -12,6 +12,7 @@ use lib.ListN.{length, getD, replicate, length-replicate}
 use Rattle.base.specs.Decided.{Decided}
 use Rattle.base.specs.Seq.{cell}
 use Rattle.base.proofs.Cases.{eq-or}
+use Rattle.base.proofs.Decisions.{told-equal, told-other}
 use Rattle.base.proofs.Seq.{zeros-at}
 use Rattle.base.specs.Parts.{partOf, putBlock}
 use Rattle.base.proofs.Parts.{length-partOf, partOf-at, putBlock-here, putBlock-other, putBlock-length, row-ends}
@@ -21,7 +22,6 @@ use Rattle.params.proofs.Placing.{Listed, nodeAt, placing-zeros}
 use Rattle.blocks.specs.Bytes.{over}
 use Rattle.blocks.proofs.Laws.{over-same}
 use Rattle.placing.specs.Placed.{BlocksIn, Puttable, PutPost, ClearPost}
-use Rattle.placing.proofs.Tests.{told-equal, told-other}
 
 -- the node of turn i, whose place is w: its block ends within the codeword
 pub block-ends : (set number : ℕ) (places : List ℕ) → Listed set number places → (i w : ℕ) → i < number → w ≡ getD places i 0 → (b codeword : ℕ)
