@@ -1,7 +1,7 @@
 -- The completion theorem at the nodes of a test: as many nodes as the working number determine exactly one pair, and as many as the slack has parts
 -- exactly one slack beside a given message. Assumes nothing.
 use mathlib.Core.Path.{_≡_, sym, ap, ap₂, _∙_, subst}
-use mathlib.Core.Bool.{Bool, true, false, not}
+use mathlib.Core.Bool.{Bool, true, not}
 use mathlib.Core.List.{List}
 use Prim.Native.Nat.{ℕ, suc, _+_, _-_, _*_, _<_}
 use native.Mathlib.Omega.{arith}
@@ -21,7 +21,7 @@ use Rattle.gates.specs.Valid.{Valid}
 use Rattle.params.specs.declared.Params.{Params}
 use Rattle.params.proofs.Sets.{length-nodes, rank-lt, node-at-rank, entry, distinct, count-not, count-range, within-size}
 use Rattle.gates.proofs.Valid.{working-is, working-le, slack-add}
-use Rattle.code.specs.Code.{point, Parts, block, Gives, upTo}
+use Rattle.code.specs.Code.{point, block, Gives, upTo}
 use Rattle.code.specs.Slacks.{Slack}
 use Rattle.code.specs.Calls.{Vanishes}
 

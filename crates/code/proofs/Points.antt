@@ -1,11 +1,9 @@
 -- The points of a set's nodes tell a polynomial: the set's nodes are different nodes of 1..32, and the points of these are different bytes other than 00.
 -- Assumes nothing.
 use mathlib.Core.Path.{_≡_, refl, sym, ap, _∙_, subst⁻¹}
-use mathlib.Core.Bool.{_&&_}
 use mathlib.Core.List.{List}
 use Prim.Native.Nat.{ℕ, suc, _^_, _≤_, _<_}
 use native.Mathlib.Omega.{arith}
-use lib.Dec.{leb}
 use lib.ListN.{length, getD, take, drop, replicate}
 use Rattle.base.specs.Seq.{tabulate}
 use Rattle.base.specs.Parts.{Filled}
@@ -14,7 +12,7 @@ use Rattle.base.proofs.Buffers.{buffer-front, buffer-fits, buffer-count}
 use Rattle.field.specs.Field.{IsByte}
 use Rattle.interpolation.specs.Polynomial.{Points}
 use Rattle.interpolation.proofs.PointLists.{points-of, points-1-32}
-use Rattle.params.specs.Nodes.{has, size, count, outside, Listing}
+use Rattle.params.specs.Nodes.{has, size, count, Listing}
 use Rattle.params.proofs.Sets.{entry, size-count, size-most}
 use Rattle.params.proofs.Placing.{entries-told, entries-kept}
 use Rattle.code.specs.Code.{point}

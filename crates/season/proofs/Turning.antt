@@ -1,14 +1,14 @@
 -- The program's calls one by one: the bytes to write lie within the line, each turn leaves fewer events, and what the calls gave to be written is the front of
 -- the output, and all of it at the end. Assumes nothing.
-use mathlib.Core.Path.{_≡_, ap, subst}
-use mathlib.Core.Bool.{true, false}
+use mathlib.Core.Path.{_≡_, sym, ap, subst}
+use mathlib.Core.Bool.{Bool, true, false, true≢false}
 use mathlib.Core.List.{List}
 use Prim.Native.Nat.{ℕ, _≤_, _<_}
 use native.Mathlib.Omega.{arith}
 use lib.ListN.{length, length-append}
 use Rattle.field.specs.Field.{Bytes}
 use Rattle.season_lines.specs.Lines.{Wrote}
-use Rattle.season_run.specs.Season.{Goes, placeOf, outcomeOf, Room, BeginPost, TurnPost}
+use Rattle.season_run.specs.Season.{Season, Goes, placeOf, outcomeOf, Room, BeginPost, TurnPost}
 use Rattle.season_run.specs.Program.{Calls}
 use Rattle.season_run.specs.declared.State.{State}
 use Rattle.season_run.specs.declared.Next.{Next}
@@ -47,31 +47,13 @@ module _ (input buffer line : List ℕ) (bytes : Bytes input) (room : Room buffe
         omega (arith, g .1)
 
   module _ (n : Next) (lines buffer′ line′ : List ℕ) (calls : Calls input buffer line lines n buffer′ line′) where
+    printed : (all : Bool) → (all ≡ true → Season input lines) → Printed input buffer line all buffer′ line′
+    printed all whole = record { lines = lines; next = n; calls = calls; front = program-prefix input bytes room calls; all = whole }
+
     -- the run stops here, ..
     pub stopped : Printed input buffer line false buffer′ line′
-    stopped =
-        record {
-          lines = lines;
-          next = n;
-          calls = calls;
-          front = program-prefix input bytes room calls;
-          all = λ e. let z : _≡_ {A = ℕ} 0 1 = cc in absurd (omega arith);
-        }
+    stopped = printed false (λ e. absurd (true≢false (sym e)))
 
     -- .. or ends here
     pub finished : n ≡ End → Printed input buffer line true buffer′ line′
-    finished e =
-        record {
-          lines = lines;
-          next = n;
-          calls = calls;
-          front = program-prefix input bytes room calls;
-          all =
-              λ _.
-              program-output input bytes room
-              (record {
-                buffer-left = buffer′;
-                line-left = line′;
-                calls = onto e calls;
-              });
-        }
+    finished e = printed true (λ _. program-output input bytes room (record { buffer-left = buffer′; line-left = line′; calls = onto e calls }))

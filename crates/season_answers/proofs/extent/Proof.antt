@@ -2,7 +2,6 @@
 use mathlib.Core.Path.{refl}
 use native.Mathlib.Omega.{arith}
 use Rattle.gates.proofs.Valid.{blocks-most}
-use borrow.Author.Needs.{needs}
 use Rattle.season_answers.proofs.extent.Statement.{statement}
 use Rattle.season_answers.proofs.extent.Tie as tie
 
