@@ -20,8 +20,8 @@ use Rattle.params.specs.Params.{slackParts, working}
 use Rattle.params.specs.declared.Params.{Params}
 use Rattle.code.specs.Code.{point, block}
 use Rattle.code.specs.Calls.{Encoded}
-use Rattle.kernels.specs.Blocks.{Fits, Added}
-use Rattle.kernels.proofs.Arriving.{ordered-product}
+use Rattle.products.specs.Blocks.{Fits, Added}
+use Rattle.products.proofs.Arriving.{ordered-product}
 use Rattle.coefficients.proofs.Laws.{product-fits, first-length, first-at, first-inside, product-first}
 use Rattle.node_rows.specs.Rows.{pointPowers}
 use Rattle.node_rows.proofs.Laws.{length-pointPowers, pointPowers-at}

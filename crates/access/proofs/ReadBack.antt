@@ -20,8 +20,8 @@ use Rattle.params.specs.declared.Params.{Params}
 use Rattle.params.proofs.Sets.{within-has, size-most}
 use Rattle.code.specs.Code.{point, block, Gives}
 use Rattle.code.specs.Points.{pointAt, pointsOf}
-use Rattle.kernels.specs.Blocks.{Fits, Added}
-use Rattle.kernels.proofs.Arriving.{ordered-product}
+use Rattle.products.specs.Blocks.{Fits, Added}
+use Rattle.products.proofs.Arriving.{ordered-product}
 use Rattle.coefficients.specs.Coefficients.{Reads}
 use Rattle.coefficients.proofs.Laws.{product-fits, product-places, first-length, first-at, first-inside}
 use Rattle.node_rows.proofs.Laws.{reads-nodes}

@@ -19,9 +19,9 @@ use Rattle.field.proofs.FiniteSum.{sum-ext, sum-add}
 use Rattle.interpolation.specs.Polynomial.{evaluate, Points}
 use Rattle.interpolation.proofs.Lagrange.{associate}
 use Rattle.params.specs.Nodes.{inOrder}
+use Rattle.products.specs.Blocks.{Fits, Added}
+use Rattle.products.proofs.Arriving.{ordered-added}
 use Rattle.points.specs.Lists.{Among}
-use Rattle.kernels.specs.Blocks.{Fits, Added}
-use Rattle.kernels.proofs.Arriving.{ordered-added}
 use Rattle.coefficients.specs.Coefficients.{powerRows, Extends, Roomy, ExtendsPost}
 use Rattle.coefficients.specs.Working.{remaining, Carries, Shared, Sharable}
 use Rattle.coefficients.proofs.Laws.{length-powerRows, powerRows-at, product-fits, first-length, first-at, first-inside, product-first}

@@ -15,8 +15,8 @@ use Rattle.field.proofs.FiniteSum.{sum-ext}
 use Rattle.interpolation.specs.Polynomial.{evaluate}
 use Rattle.params.specs.Nodes.{inOrder}
 use Rattle.params.proofs.Placing.{length-in-order, in-order-at}
-use Rattle.kernels.specs.Blocks.{product, Inside, Fits, Added}
-use Rattle.kernels.proofs.Arriving.{ordered-inside}
+use Rattle.products.specs.Blocks.{product, Inside, Fits, Added}
+use Rattle.products.proofs.Arriving.{ordered-inside}
 use Rattle.coefficients.specs.Coefficients.{powerRows, Reads, Extends}
 
 -- ---- rows of powers

@@ -20,7 +20,7 @@ use Rattle.params.specs.declared.Params.{Params}
 use Rattle.params.proofs.Sets.{size-most}
 use Rattle.params.proofs.Placing.{placed-length, placed-node}
 use Rattle.code.specs.Code.{point, block}
-use Rattle.kernels.proofs.Laws.{block-inside}
+use Rattle.products.proofs.Laws.{block-inside}
 use Rattle.coefficients.proofs.Laws.{first-length, first-inside}
 use Rattle.node_rows.proofs.Targets.{arriving-ordered}
 use Rattle.extension.specs.Blocks.{Recomputable, RecomputePost}

@@ -19,8 +19,8 @@ use Rattle.field.proofs.Bytes.{cell-byte}
 use Rattle.interpolation.specs.Polynomial.{evaluate}
 use Rattle.params.specs.Nodes.{size, inOrder}
 use Rattle.code.specs.Points.{pointAt, pointsOf}
-use Rattle.kernels.specs.Blocks.{product, when, arriving, Fits, Added}
-use Rattle.kernels.proofs.Arriving.{arriving-ext, arriving-none}
+use Rattle.products.specs.Blocks.{product, when, arriving, Fits, Added}
+use Rattle.products.proofs.Arriving.{arriving-ext, arriving-none}
 use Rattle.coefficients.specs.Coefficients.{Extends, ExtendsPost}
 use Rattle.coefficients.proofs.Laws.{product-fits, first-length, first-inside, product-first}
 use Rattle.node_rows.proofs.Laws.{roomy, extends-nodes}

@@ -8,7 +8,7 @@ use Rattle.field.specs.Field.{IsByte, add}
 use Rattle.interpolation.specs.Polynomial.{evaluate}
 use Rattle.params.specs.Nodes.{size}
 use Rattle.code.specs.Points.{pointAt}
-use Rattle.kernels.specs.Blocks.{arriving}
+use Rattle.products.specs.Blocks.{arriving}
 
 -- what is asked of the lengths of message, z and out: message has e parts, each place names a block of z, and `to` a block of out for each target
 pub record Extendable (b e at targets : ℕ) (places to : List ℕ) (message z out : ℕ) : Type 0 where

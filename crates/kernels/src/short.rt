@@ -1,20 +1,20 @@
 // A product as in `tiles`, but for few short blocks: in tiles of 16 bytes, of at most eight rows and four columns. The columns are one group, so that the table is small.
-use crate::picks::fill_picks;
-use crate::tables::add_part;
-use crate::tables::add_tile;
-use crate::tables::double_tile;
 use base::shorter;
 use base::wide;
+use blocks::add_block;
 use blocks::clear;
 use blocks::copy_block;
+use picks::put_picks;
+use tiles::add_part;
+use tiles::double_tile;
 ghost use mathlib.Core.Path.{_≡_};
 ghost use Prim.Native.Nat.{ℕ, _+_, _*_, _≤_, _<_};
 ghost use lib.ListN.{length};
 ghost use Rattle.base.specs.Seq.{tabulate};
 ghost use Rattle.base.specs.Parts.{partOf, putBlock};
 ghost use Rattle.blocks.specs.Bytes.{plus};
-ghost use Rattle.kernels.specs.Blocks.{Inside, Fits, Added};
-ghost use Rattle.kernels.specs.Tiling.{tileAt, byBits, Raised, Chosen, Reached, Spanned};
+ghost use Rattle.products.specs.Blocks.{Rows, Inside, Fits, Added, Spanned};
+ghost use Rattle.tiles.specs.Tiling.{tileAt, byBits, Raised, Chosen, Picked, Reached};
 
 // out += a product of at most eight rows and four columns.
 pub(crate) fn add_short(
@@ -33,13 +33,30 @@ pub(crate) fn add_short(
     let mut table = [0u8; 256];
     let mut picks = [0u8; 64];
     let width = places.len();
-    fill_picks(&mut picks, 1, width, targets.len(), width, coeffs, stride);
+    fill_picks(&mut picks, targets.len(), width, coeffs, stride);
     let mut at = 0;
     while at < b {
         let w = shorter(16, b - at);
         fill_short(&mut table, b, at, w, src, places);
         add_short_rows(out, targets, b, at, w, &table, &picks);
         at += w;
+    }
+}
+
+// picks := those of a matrix of coefficients, whose columns are one group. The pick of row i and bit 7 - s stands at place i·8 + s.
+fn fill_picks(picks: &mut [u8], rows: usize, width: usize, coeffs: &[u8], stride: usize)
+    requires { ⌜ (rows ≤ 8) × (width ≤ 4) × (length (now picks) ≡ 64) ⌝ }
+    requires { ⌜ Rows rows width stride (length (now coeffs)) ⌝ }
+    ensures { λ _. ⌜ Picked rows stride (now (coeffs .entry)) width 1 width (now (picks .entry)) (now (picks .exit)) ⌝ }
+{
+    let mut i = 0;
+    while i < rows {
+        let row = i * stride;
+        let end = row + width;
+        let at = i * 8;
+        let stop = at + 8;
+        put_picks(&mut picks[at..stop], &coeffs[row..end]);
+        i += 1;
     }
 }
 
@@ -98,7 +115,7 @@ fn set_short_sum(table: &mut [u8], n: usize, m: usize, tile: &[u8])
     let end = from + 16;
     let mut sum = [0u8; 16];
     copy_block(&mut sum, &table[from..end]);
-    add_tile(&mut sum, tile);
+    add_block(&mut sum, tile);
     let at = n * 16;
     let stop = at + 16;
     copy_block(&mut table[at..stop], &sum);
@@ -139,7 +156,7 @@ fn add_short_row(dst: &mut [u8], table: &[u8], picks: &[u8], i: usize)
         double_tile(&mut sum);
         let at = wide(picks[i * 8 + s]) * 16;
         let end = at + 16;
-        add_tile(&mut sum, &table[at..end]);
+        add_block(&mut sum, &table[at..end]);
         s += 1;
     }
     add_part(dst, &sum);

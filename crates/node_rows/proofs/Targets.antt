@@ -8,8 +8,8 @@ use lib.ListN.{length, getD, take}
 use Rattle.params.specs.Nodes.{has, size, count, listed, inOrder, placesOf}
 use Rattle.params.proofs.Sets.{has-le, node-at-rank, rank-inside, same-rank, size-most}
 use Rattle.params.proofs.Placing.{placed-length, placed-node, not-placed}
-use Rattle.kernels.specs.Blocks.{arriving}
-use Rattle.kernels.proofs.Arriving.{arriving-none, arriving-one}
+use Rattle.products.specs.Blocks.{arriving}
+use Rattle.products.proofs.Arriving.{arriving-none, arriving-one}
 use Rattle.coefficients.proofs.Laws.{first-length, first-at}
 
 -- f says what the row of a node brings; rows is the number of the set's nodes, as the code counts it

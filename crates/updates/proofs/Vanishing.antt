@@ -24,8 +24,8 @@ use Rattle.params.proofs.Outside.{Outside, outside-node, outside-size}
 use Rattle.code.specs.Code.{point, block}
 use Rattle.code.specs.Points.{pointAt, pointsOf}
 use Rattle.code.specs.Calls.{Vanishes}
-use Rattle.kernels.specs.Blocks.{Fits, Added}
-use Rattle.kernels.proofs.Arriving.{arriving-ext}
+use Rattle.products.specs.Blocks.{Fits, Added}
+use Rattle.products.proofs.Arriving.{arriving-ext}
 use Rattle.coefficients.specs.Coefficients.{Extends, Roomy}
 use Rattle.coefficients.proofs.Laws.{product-fits, lent-anew, first-length, first-inside, product-first}
 use Rattle.node_rows.proofs.Laws as rows

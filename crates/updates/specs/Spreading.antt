@@ -10,7 +10,7 @@ use Rattle.params.specs.Nodes.{size, within, listed}
 use Rattle.params.specs.declared.Params.{Params}
 use Rattle.code.specs.Code.{block}
 use Rattle.code.specs.Calls.{Vanishes}
-use Rattle.kernels.specs.Blocks.{arriving}
+use Rattle.products.specs.Blocks.{arriving}
 
 -- a change, a set W of w nodes outside which it is to vanish, and a block for each of the takers, the nodes whose rows are wanted (both calls give W)
 pub record Spreadable (a : Params) (change to takers : ℕ) (targets : List ℕ) (out : ℕ) : Type 0 where

@@ -7,10 +7,10 @@ use native.Mathlib.Omega.{arith}
 use borrow.Author.Needs.{needs}
 use lib.ListN.{length, length-replicate}
 use Rattle.base.proofs.Cases.{lt-or}
-use Rattle.kernels.specs.Blocks.{Inside}
-use Rattle.kernels.proofs.Choices.{tabled-one}
-use Rattle.kernels.proofs.Digits.{one-group}
-use Rattle.kernels.proofs.Spans.{picks-reach, row-product, blockAt, Tiled, tiled-none, tiled-more, tiled-all}
+use Rattle.products.specs.Blocks.{Inside}
+use Rattle.tiles.proofs.Choices.{tabled-one}
+use Rattle.tiles.proofs.Groups.{one-group}
+use Rattle.tiles.proofs.Spans.{picks-reach, row-product, blockAt, Tiled, tiled-none, tiled-more, tiled-all}
 use Rattle.kernels.proofs.short.add_short.Statement.{statement}
 use Rattle.kernels.proofs.short.add_short.Tie as tie
 
@@ -27,7 +27,7 @@ slice-aggregate-fill-picks c = search needs
 fill-picks-requires : tie.Need-fill-picks-requires Inv-loop μ-loop
 fill-picks-requires c κs =
     let s = c .before .before .before .before .before .before in
-    (one-group _ (omega arith), ((omega arith, λ g i hg hi. omega (arith, length-replicate {A = ℕ} 64 0)), s .pre .0 .row))
+    ((s .pre .1 .0, s .pre .1 .1, length-replicate {A = ℕ} 64 0), s .pre .0 .row)
 
 loop-holds : tie.Need-loop-holds Inv-loop μ-loop
 loop-holds c = (omega arith, refl, tiled-none _ _ _, omega arith)

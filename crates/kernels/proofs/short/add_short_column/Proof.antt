@@ -1,6 +1,6 @@
 -- The zeros behind a copy of the part are the bytes that the part does not have. Assumes nothing.
 use borrow.Author.Needs.{needs}
-use Rattle.kernels.proofs.Choices.{copy-at, raised-same}
+use Rattle.tiles.proofs.Choices.{copy-at, raised-same}
 use Rattle.kernels.proofs.short.add_short_column.Statement.{statement}
 use Rattle.kernels.proofs.short.add_short_column.Tie as tie
 

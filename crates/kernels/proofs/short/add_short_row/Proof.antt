@@ -7,11 +7,10 @@ use borrow.Author.Needs.{needs}
 use lib.ListN.{length, getD}
 use Rattle.base.specs.Parts.{partOf}
 use Rattle.base.specs.Seq.{tabulate, cell}
-use Rattle.base.proofs.Parts.{length-partOf}
 use Rattle.base.proofs.Seq.{length-tabulate}
 use Rattle.blocks.specs.Bytes.{plus}
-use Rattle.kernels.specs.Tiling.{byBits}
-use Rattle.kernels.proofs.Spans.{gathered-none, gathered-more, bits-none, bits-more}
+use Rattle.tiles.specs.Tiling.{byBits}
+use Rattle.tiles.proofs.Spans.{gathered-none, gathered-more, bits-none, bits-more}
 use Rattle.kernels.proofs.short.add_short_row.Statement.{statement}
 use Rattle.kernels.proofs.short.add_short_row.Tie as tie
 
@@ -73,26 +72,24 @@ mul-at c = omega (arith, room c)
 add-end : tie.Need-add-end Inv-loop μ-loop
 add-end c = omega (arith, room c)
 
-slice-aggregate-add-tile : tie.Need-slice-aggregate-add-tile Inv-loop μ-loop
-slice-aggregate-add-tile c = search needs
+slice-aggregate-add-block : tie.Need-slice-aggregate-add-block Inv-loop μ-loop
+slice-aggregate-add-block c = search needs
 
-sub-add-tile : tie.Need-sub-add-tile Inv-loop μ-loop
-sub-add-tile c = search needs
+sub-add-block : tie.Need-sub-add-block Inv-loop μ-loop
+sub-add-block c = search needs
 
-part-add-tile-start : tie.Need-part-add-tile-start Inv-loop μ-loop
-part-add-tile-start c = search needs
+part-add-block-start : tie.Need-part-add-block-start Inv-loop μ-loop
+part-add-block-start c = search needs
 
-part-add-tile-end : tie.Need-part-add-tile-end Inv-loop μ-loop
-part-add-tile-end c = room (c .before)
+part-add-block-end : tie.Need-part-add-block-end Inv-loop μ-loop
+part-add-block-end c = room (c .before)
 
 -- the doubled tile has its 16 bytes too
 doubled : (c : tie.After-double-tile Inv-loop μ-loop) → length (c .double-tile .last .0) ≡ 16
 doubled c = c .double-tile .kept .0 ∙ full (c .before .before .before)
 
-add-tile-requires : tie.Need-add-tile-requires Inv-loop μ-loop
-add-tile-requires c κs =
-    let a = c .before .before in
-    doubled (c .before .before .before .before .before) ∙ sym (length-partOf 16 (a .wide .result) (now (start a .args .table)) (room a))
+add-block-requires : tie.Need-add-block-requires Inv-loop μ-loop
+add-block-requires c κs = search needs
 
 add-s : tie.Need-add-s Inv-loop μ-loop
 add-s c = search needs
@@ -110,7 +107,7 @@ loop-again c =
       omega arith,
       bits-more 16 1 _ _ (s .i) (l .s) _ twice _ (l .inv .1) (d .double-tile .ensures)
           (gathered-more 16 (now (s .table)) (now (s .picks)) (place a) twice (doubled d) 0 twice _
-          (c .before .add-tile .ensures ∙ ap (λ (n : ℕ). plus twice (partOf 16 n (now (s .table)))) (pick-is a))
+          (c .before .add-block .ensures ∙ ap (λ (n : ℕ). plus twice (partOf 16 n (now (s .table)))) (pick-is a))
           (gathered-none 16 (now (s .table)) (now (s .picks)) (place a) twice (doubled d))),
     )
 
@@ -118,7 +115,7 @@ slice-aggregate-add-part : tie.Need-slice-aggregate-add-part Inv-loop μ-loop
 slice-aggregate-add-part c = sym (full (c .before .before .before))
 
 add-part-requires : tie.Need-add-part-requires Inv-loop μ-loop
-add-part-requires c κs = omega (arith, full (c .before .before .before))
+add-part-requires c κs = search needs
 
 same-length : tie.Need-same-length Inv-loop μ-loop
 same-length c = search needs
@@ -145,11 +142,11 @@ add-short-row-spec =
     wide-requires
     mul-at
     add-end
-    slice-aggregate-add-tile
-    sub-add-tile
-    part-add-tile-start
-    part-add-tile-end
-    add-tile-requires
+    slice-aggregate-add-block
+    sub-add-block
+    part-add-block-start
+    part-add-block-end
+    add-block-requires
     add-s
     loop-less
     loop-again

@@ -5,9 +5,11 @@ use denote.Ref.{now}
 use native.Mathlib.Omega.{arith}
 use borrow.Author.Needs.{needs}
 use lib.ListN.{length}
-use Rattle.kernels.specs.Tiling.{byBits, Spanned}
-use Rattle.kernels.proofs.Choices.{stretch-ends}
-use Rattle.kernels.proofs.Spans.{spanned-none, row-spanned}
+use Rattle.products.specs.Blocks.{Spanned}
+use Rattle.products.proofs.Spanning.{spanned-none}
+use Rattle.products.proofs.Stretches.{stretch-ends}
+use Rattle.tiles.specs.Tiling.{byBits}
+use Rattle.tiles.proofs.Spans.{row-spanned}
 use Rattle.kernels.proofs.short.add_short_rows.Statement.{statement}
 use Rattle.kernels.proofs.short.add_short_rows.Tie as tie
 

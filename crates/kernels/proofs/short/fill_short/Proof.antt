@@ -9,9 +9,9 @@ use lib.ListN.{length, getD}
 use lib.Pow.{pow-mono}
 use Rattle.base.specs.Parts.{putBlock}
 use Rattle.base.proofs.Parts.{length-partOf, putBlock-length}
-use Rattle.kernels.specs.Tiling.{tileAt, Chosen}
-use Rattle.kernels.proofs.Choices.{stretch-ends, stretch-tile, tile-byte, chosen-none, chosen-more, chosen-all}
-use Rattle.kernels.proofs.Stretches.{stretch, length-stretch}
+use Rattle.products.proofs.Stretches.{stretch-ends, stretch, length-stretch}
+use Rattle.tiles.specs.Tiling.{tileAt, Chosen}
+use Rattle.tiles.proofs.Choices.{stretch-tile, tile-byte, chosen-none, chosen-more, chosen-all}
 use Rattle.kernels.proofs.short.fill_short.Statement.{statement}
 use Rattle.kernels.proofs.short.fill_short.Tie as tie
 

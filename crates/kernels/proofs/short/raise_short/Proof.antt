@@ -4,8 +4,8 @@ use Prim.Native.Nat.{ℕ, _-_, _≤_}
 use denote.Ref.{now}
 use native.Mathlib.Omega.{arith}
 use borrow.Author.Needs.{needs}
-use Rattle.kernels.specs.Tiling.{Raised}
-use Rattle.kernels.proofs.Choices.{raised-none, raised-more}
+use Rattle.tiles.specs.Tiling.{Raised}
+use Rattle.tiles.proofs.Choices.{raised-none, raised-more}
 use Rattle.kernels.proofs.short.raise_short.Statement.{statement}
 use Rattle.kernels.proofs.short.raise_short.Tie as tie
 

@@ -6,7 +6,7 @@ use borrow.Author.Needs.{needs}
 use Rattle.base.specs.Parts.{partOf, putBlock}
 use Rattle.base.proofs.Parts.{length-partOf}
 use Rattle.blocks.proofs.Laws.{over-same}
-use Rattle.kernels.proofs.Choices.{sum-is}
+use Rattle.tiles.proofs.Choices.{sum-is}
 use Rattle.kernels.proofs.short.set_short_sum.Statement.{statement}
 use Rattle.kernels.proofs.short.set_short_sum.Tie as tie
 
@@ -31,11 +31,11 @@ part-copy-block-end c = search needs
 copy-block-requires : tie.Need-copy-block-requires
 copy-block-requires c κs = search needs
 
-slice-aggregate-add-tile : tie.Need-slice-aggregate-add-tile
-slice-aggregate-add-tile c = search needs
+slice-aggregate-add-block : tie.Need-slice-aggregate-add-block
+slice-aggregate-add-block c = search needs
 
-add-tile-requires : tie.Need-add-tile-requires
-add-tile-requires c κs = search needs
+add-block-requires : tie.Need-add-block-requires
+add-block-requires c κs = search needs
 
 mul-at : tie.Need-mul-at
 mul-at c = search needs
@@ -68,10 +68,10 @@ returns c =
     let s = d .before .before .before .before .before .before in
     let n = s .args .n in
     let table = now (s .args .table) in
-    sum-is 16 n (s .args .m) _ _ _ _ _ _ (s .pre .0 .1) refl (d .copy-block .ensures) (a .add-tile .ensures)
+    sum-is 16 n (s .args .m) _ _ _ _ _ _ (s .pre .0 .1) refl (d .copy-block .ensures) (a .add-block .ensures)
     (ap (putBlock 16 n table)
     (c .before .before .copy-block2 .ensures
-    ∙ over-same (partOf 16 n table) _ (omega (arith, length-partOf 16 n table (s .pre .0 .0), a .add-tile .kept .0, d .copy-block .kept .0))))
+    ∙ over-same (partOf 16 n table) _ (omega (arith, length-partOf 16 n table (s .pre .0 .0), a .add-block .kept .0, d .copy-block .kept .0))))
 
 pub set-short-sum-spec : {M : Type 1} → statement M
 set-short-sum-spec =
@@ -84,8 +84,8 @@ set-short-sum-spec =
     part-copy-block-start
     part-copy-block-end
     copy-block-requires
-    slice-aggregate-add-tile
-    add-tile-requires
+    slice-aggregate-add-block
+    add-block-requires
     mul-at
     add-stop
     sub-copy-block-2

@@ -1,0 +1,4 @@
+pub mod Groups
+pub mod Choices
+pub mod PickRows
+pub mod Spans
