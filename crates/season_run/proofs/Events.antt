@@ -1,22 +1,19 @@
--- What the file's definitions say of an event that was found: its blocks stand within the input, its bytes are bytes and its sets have 32 bits, and its answer is
--- the number of the list's event. By cases on its kind. Assumes nothing.
-use mathlib.Core.Path.{_≡_, refl, sym, _∙_, subst}
+-- What the file's definitions say of an event that was found: its block stands within the input and has its length, its bytes are bytes and its sets have 32 bits.
+-- By cases on its kind. Assumes nothing.
+use mathlib.Core.Path.{_≡_, refl, subst}
 use mathlib.Core.Bool.{Bool, true, false, cond as choose}
 use mathlib.Core.List.{List}
 use Prim.Native.Nat.{ℕ, _+_, _*_, _^_, _≤_, _<_}
 use native.Mathlib.Omega.{arith}
 use lib.Dec.{ltb, eqb}
-use lib.ListN.{length, getD, drop, replicate, length-drop, length-replicate}
-use lib.Seq.{length-take-le}
+use lib.ListN.{length, getD, drop, replicate}
 use borrow.Author.Tests.{ltb-false}
 use Rattle.base.proofs.Seq.{tabulate-zeros}
 use Rattle.field.specs.Field.{Bytes}
 use Rattle.field.proofs.Bytes.{bytes-tabulate, bytes-take, bytes-drop}
 use Rattle.params.specs.declared.Params.{Params}
-use Rattle.gates.specs.Gates.{updateGate, repairGate, damageGate, decodeGate, reconfigureGate}
-use Rattle.ledger.specs.Ledger.{Held, Step, updated, repaired, reconfigured, decoded, damaged, Typed}
+use Rattle.ledger.specs.Ledger.{Held, Typed}
 use Rattle.season_file.specs.File.{numberAt, choiceAt, bytesOf, eventsCountAt, openingOf, eventAt, endOf, unknown, itemAt}
-use Rattle.season_answers.specs.Answers.{answerOf}
 use Rattle.season_file.specs.declared.Span.{Span}
 use Rattle.season_file.specs.declared.Event.{Event}
 use Rattle.season_file.specs.declared.Event.the-variants.{Update, Repair, Damage, Decode, Reconfigure}
@@ -25,8 +22,8 @@ use Rattle.season_file.specs.declared.Found.{Found}
 use Rattle.season_file.specs.declared.Header.{Header}
 use Rattle.season_file.specs.declared.Item.the-variants as item
 use Rattle.season_file.specs.declared.Opening.the-variants as opening
-use Rattle.season_run.specs.Season.{listed}
-use Rattle.season_run.specs.Turning.{Inside, Counted}
+use Rattle.season_effects.specs.Events.{listed}
+use Rattle.season_effects.specs.Effects.{InFull}
 
 -- ---- numbers and blocks of an input of bytes
 
@@ -70,9 +67,6 @@ header-counted input hd bytes e =
 
 -- ---- an event that was found
 
-pub span-length : (input : List ℕ) (s : Span) → s .at + s .count ≤ length input → length (bytesOf input s) ≡ s .count
-span-length input s h = length-take-le (s .count) (drop (s .at) input) (omega (arith, length-drop (s .at) input))
-
 -- its sets have 32 bits
 abbrev Small : Event → Type 0
 Small (Update f) = f .to .0 < 2 ^ 32
@@ -82,8 +76,7 @@ Small (Decode f) = f .from .0 < 2 ^ 32
 Small (Reconfigure f) = (f .from .0 < 2 ^ 32) × (f .to .0 < 2 ^ 32)
 
 pub record Good (a : Params) (input : List ℕ) (e : Event) : Type 0 where
-  pub inside : Inside input e
-  pub counted : Counted a e
+  pub found : InFull a (length input) e
   pub small : Bytes input → Small e
 
 -- what holds of each kind's event and lengths holds of those that the tests of the kind choose
@@ -100,11 +93,11 @@ by-kind P false false false false p₁ p₂ p₃ p₄ p₅ = p₅
 event-good : (a : Params) (input : List ℕ) (at kind : ℕ) → endOf a input at kind ≤ length input → Good a input (eventAt a input at kind)
 event-good a input at kind =
     by-kind (λ e m q. at + m + q ≤ length input → Good a input e) (eqb kind 1) (eqb kind 2) (eqb kind 3) (eqb kind 4)
-    (λ h. record { inside = omega arith; counted = refl; small = choice-small input at })
-    (λ h. record { inside = tt; counted = tt; small = λ hb. (choice-small input at hb, choice-small input (at + 4) hb) })
-    (λ h. record { inside = omega arith; counted = refl; small = λ hb. tt })
-    (λ h. record { inside = tt; counted = tt; small = choice-small input at })
-    (λ h. record { inside = omega arith; counted = refl; small = λ hb. (choice-small input at hb, choice-small input (at + 12) hb) })
+    (λ h. record { found = record { inside = omega arith; counted = refl }; small = choice-small input at })
+    (λ h. record { found = tt; small = λ hb. (choice-small input at hb, choice-small input (at + 4) hb) })
+    (λ h. record { found = record { inside = omega arith; counted = refl }; small = λ hb. tt })
+    (λ h. record { found = tt; small = choice-small input at })
+    (λ h. record { found = record { inside = omega arith; counted = refl }; small = λ hb. (choice-small input at hb, choice-small input (at + 12) hb) })
 
 -- the one choice that ends at an event
 whole-of : (b₁ b₂ b₃ : Bool) (u v w : Fault) (g f : Found)
@@ -130,40 +123,3 @@ typed h input (Repair f) hb g = (tt, g .small hb .0, g .small hb .1)
 typed h input (Damage f) hb g = span-bytes input (f .block) hb
 typed h input (Decode f) hb g = (tt, bytes-zeros (h .params .k * h .params .b), g .small hb)
 typed h input (Reconfigure f) hb g = (tt, bytes-zeros (f .shape .n * h .params .b), span-bytes input (f .message) hb, g .small hb .0, g .small hb .1)
-
--- the gate that its call's post-condition cites, on the lengths of what it is lent
-abbrev pub gate : Held → List ℕ → Event → ℕ
-gate h input (Update f) = updateGate (h .params) (length (h .codeword)) (length (bytesOf input (f .change))) (f .to .0)
-gate h input (Repair f) = repairGate (h .params) (length (h .codeword)) (f .from .0) (f .lost .0)
-gate h input (Damage f) = damageGate (h .params .n) (f .node .0)
-gate h input (Decode f) =
-    decodeGate (h .params) (length (h .codeword)) (length (replicate {A = ℕ} (h .params .k * h .params .b) 0)) (f .from .0)
-gate h input (Reconfigure f) =
-    reconfigureGate (h .params) (f .shape) (length (h .codeword)) (length (replicate {A = ℕ} (f .shape .n * h .params .b) 0)) (length (bytesOf input (f .message)))
-    (f .from .0) (f .to .0)
-
--- Every step of it answers that number, ..
-step-answer : (h : Held) (input : List ℕ) (e : Event) {q : ℕ} {h′ : Held} → Step h (listed h input e) q h′ → q ≡ gate h input e
-step-answer h input (Update f) (updated answer new post) = post .number
-step-answer h input (Repair f) (repaired answer new post) = post .number
-step-answer h input (Damage f) (damaged e) = e
-step-answer h input (Decode f) (decoded answer out post) = post .number
-step-answer h input (Reconfigure f) (reconfigured answer new post) = post .number
-
--- .. which is the answer that the event prints, where the record in force has n·b bytes.
-pub answer-is-gate : (h : Held) (input : List ℕ) (e : Event) → length (h .codeword) ≡ h .params .n * h .params .b → Inside input e → Counted (h .params) e
-    → answerOf (h .params) e ≡ gate h input e
-unfolding answerOf
-answer-is-gate h input (Update f) l i g = let s = span-length input (f .change) i ∙ g in cc
-answer-is-gate h input (Repair f) l i g = cc
-answer-is-gate h input (Damage f) l i g = refl
-answer-is-gate h input (Decode f) l i g = let r = length-replicate {A = ℕ} (h .params .k * h .params .b) 0 in cc
-answer-is-gate h input (Reconfigure f) l i g =
-    let r = length-replicate {A = ℕ} (f .shape .n * h .params .b) 0 in
-    let s = span-length input (f .message) i ∙ g in cc
-
--- So a step of it answers what is printed.
-pub answered : (h : Held) (input : List ℕ) (e : Event) {q : ℕ} {h′ : Held} → length (h .codeword) ≡ h .params .n * h .params .b → Inside input e
-    → Counted (h .params) e → Step h (listed h input e) q h′ → Step h (listed h input e) (answerOf (h .params) e) h′
-answered h input e {h′ = h′} l i c st =
-    subst (λ (q : ℕ). Step h (listed h input e) q h′) (step-answer h input e st ∙ sym (answer-is-gate h input e l i c)) st

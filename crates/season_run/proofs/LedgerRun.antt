@@ -21,11 +21,13 @@ use Rattle.season_file.specs.declared.DecodeFields.{DecodeFields}
 use Rattle.season_file.specs.declared.Found.{Found}
 use Rattle.season_file.specs.declared.Item.the-variants as item
 use Rattle.season_file.specs.declared.Opening.the-variants as opening
-use Rattle.season_run.specs.Season.{listed, Prints, Tried, Place, Outcome, on, Goes}
+use Rattle.season_effects.specs.Events.{listed, Prints}
+use Rattle.season_run.specs.Season.{Tried, Place, Outcome, on, Goes}
 use Rattle.season_run.specs.Season as season
 use Rattle.season_run.specs.Ledgers.{listedAt, answerAt, Reached, opened, tried, FromUndamaged, ReadsUndamaged}
 use Rattle.season_run.proofs.Output.{opens-history, opens-whole, goes-whole}
-use Rattle.season_run.proofs.Events.{found-good, typed, answer-is-gate}
+use Rattle.season_run.proofs.Events.{found-good, typed}
+use Rattle.season_effects.proofs.Answered.{answer-is-gate}
 
 -- a list with one event more
 run-snoc : {h h′ h″ : Held} {m m′ : Machine} {es : List ledger.Event} {q : ℕ} (e : ledger.Event) → Run h m es h′ m′ → Typed e
@@ -83,7 +85,7 @@ module _ (input : List ℕ) (bytes : Bytes input) where
     season-prints-ledger message p =
         let h = here .stands in
         let y = season-history r u in
-        let g = answer-is-gate h input (Decode f) (history-whole y .length-is) tt tt in
+        let g = answer-is-gate h input (Decode f) (history-whole y .length-is) tt in
         reading-is-ledger y
         (record {
           from = f .from .0;

@@ -3,6 +3,4 @@ pub mod Output
 pub mod LedgerRun
 pub mod Program
 pub mod Sample
-mod Fronts
-mod Applied
 mod Turns

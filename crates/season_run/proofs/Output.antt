@@ -31,9 +31,11 @@ use Rattle.season_file.specs.declared.Item.{Item}
 use Rattle.season_file.specs.declared.Item.the-variants as item
 use Rattle.season_file.specs.declared.Opening.{Opening}
 use Rattle.season_file.specs.declared.Opening.the-variants as opening
-use Rattle.season_run.specs.Season.{listed, Prints, Tried, Place, Outcome, ended, on, Goes, over, leftover, faulty, tried, setUpAnswer, Opens, refused}
+use Rattle.season_effects.specs.Events.{listed, Prints}
+use Rattle.season_run.specs.Season.{Tried, Place, Outcome, ended, on, Goes, over, leftover, faulty, tried, setUpAnswer, Opens, refused}
 use Rattle.season_run.specs.Season.{opened, Runs, done, turn, Season, season, FileOutput}
-use Rattle.season_run.proofs.Events.{span-bytes, bytes-zeros, found-good, typed, answered}
+use Rattle.season_run.proofs.Events.{span-bytes, bytes-zeros, found-good, typed}
+use Rattle.season_effects.proofs.Answered.{answered}
 
 -- ---- one message
 
@@ -198,7 +200,7 @@ module _ (input : List ℕ) (bytes : Bytes input) where
           let good = found-good (h .params) input (here .at) f i in
           let p = prints-exists h (f .event) (w .bytes) in
           let s = step-exists h (listed h input (f .event)) w (typed h input (f .event) bytes good) in
-          let st = answered h input (f .event) (w .length-is) (good .inside) (good .counted) (s .2) in
+          let st = answered h input (f .event) (w .length-is) (good .found) (s .2) in
           let g = tried n f _ (s .1) z i (record { message = p .0; prints = p .1; line-is = refl; step = st }) in
           (_, turn g (again _ refl (goes-whole w g) .1))
 

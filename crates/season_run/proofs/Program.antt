@@ -19,14 +19,15 @@ use Rattle.season_file.specs.declared.Event.{Event}
 use Rattle.season_file.specs.declared.Event.the-variants.{Update, Repair, Damage, Decode, Reconfigure}
 use Rattle.season_lines.proofs.Decimal.{decimal-short}
 use Rattle.season_lines.proofs.Hexadecimal.{message-short}
-use Rattle.season_run.specs.Season.{Prints, Place, Outcome, ended, on, Goes, over, leftover, faulty, tried, Opens, refused, opened, Runs, done, turn}
-use Rattle.season_run.specs.Season.{Season, season, FileOutput, heldIn, placeOf, outcomeOf, Room, Turned, Standing}
+use Rattle.season_effects.specs.Events.{Prints, heldIn}
+use Rattle.season_run.specs.Season.{Place, Outcome, ended, on, Goes, over, leftover, faulty, tried, Opens, refused, opened, Runs, done, turn}
+use Rattle.season_run.specs.Season.{Season, season, FileOutput, placeOf, outcomeOf, Room, Turned, Standing}
 use Rattle.season_run.specs.Program.{Calls, began, turned, Ran}
 use Rattle.season_run.specs.declared.State.{State}
 use Rattle.season_run.specs.declared.Next.{Next}
 use Rattle.season_run.specs.declared.Next.the-variants.{End, On}
 use Rattle.season_run.specs.declared.Turn.{Turn}
-use Rattle.season_run.proofs.Fronts.{blocks-room, front-take, front-drop, front-length}
+use Rattle.season_effects.proofs.Fronts.{blocks-room, front-take, front-drop, front-length}
 use Rattle.season_run.proofs.Events.{header-counted}
 use Rattle.season_run.proofs.Output.{opens-whole, goes-whole, runs-exist, opens-exist, output-unique}
 

@@ -3,7 +3,6 @@ use mathlib.Core.Path.{_≡_, refl, sym, ap, _∙_, subst, subst₂}
 use mathlib.Core.List.{List, [], _++_}
 use mathlib.Core.Logic.{⊎-elim}
 use Prim.Native.Nat.{ℕ, _+_, _-_, _*_, _≤_, _<_}
-use native.Mathlib.Nat.{mul-pos}
 use native.Mathlib.Numerals.{add-one}
 use native.Mathlib.Omega.{arith}
 use lib.ListN.{length, take, drop, length-replicate, take-append-drop}
@@ -23,13 +22,15 @@ use Rattle.season_file.specs.declared.Found.{Found}
 use Rattle.season_file.specs.declared.Header.{Header}
 use Rattle.season_file.specs.declared.Item.the-variants as item
 use Rattle.season_file.specs.declared.Opening.the-variants as opening
-use Rattle.season_run.specs.Season.{Outcome, ended, on, Goes, tried, setUpAnswer, Opens, refused, opened, heldIn, placeOf, outcomeOf, Turned}
-use Rattle.season_run.specs.Turning.{Ended, RecordLength, Effected}
+use Rattle.season_run.specs.Season.{Outcome, ended, on, Goes, tried, setUpAnswer, Opens, refused, opened, placeOf, outcomeOf, Turned}
+use Rattle.season_run.specs.Turning.{Ended}
 use Rattle.season_run.specs.declared.Next.{Next}
 use Rattle.season_run.specs.declared.Next.the-variants as next
 use Rattle.season_run.specs.declared.State.{State}
 use Rattle.season_run.specs.declared.Turn.{Turn}
-use Rattle.season_run.proofs.Fronts.{blocks-room, front-take, front-drop, front-length, part-is}
+use Rattle.season_effects.specs.Events.{heldIn}
+use Rattle.season_effects.specs.Effects.{RecordLength, Effected}
+use Rattle.season_effects.proofs.Fronts.{blocks-room, front-take, front-drop, front-length, part-is}
 
 -- a turn that prints a last line
 pub ended-turn : (Result : List ℕ → Outcome → Type 0) (number kind answer : ℕ) (buffer line : List ℕ) (t : Turn) (line′ : List ℕ)
@@ -145,11 +146,3 @@ module _ (input : List ℕ) (s : State) (found : Found) (whole : itemAt (s .para
         length-is = e .length-is;
         rest = e .rest;
       }
-
--- ---- parameters in force
-
-pub no-record : (a : Params) (size : ℕ) → RecordLength a size → size ≡ 0 → Valid a → ⊥
-no-record a size r z v = ⊎-elim (λ w. omega (arith, w .1, mul-pos {m = a .n} {n = a .b} (v .shape .n-low) (v .b-low))) (λ w. w .0 v) r
-
-pub some-record : (a : Params) (size : ℕ) → RecordLength a size → (size ≡ 0 → ⊥) → Valid a
-some-record a size r ne = ⊎-elim (λ w. w .0) (λ w. absurd (ne (w .1))) r

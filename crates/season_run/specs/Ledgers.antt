@@ -11,7 +11,8 @@ use Rattle.season_file.specs.declared.Header.{Header}
 use Rattle.season_file.specs.declared.Found.{Found}
 use Rattle.season_file.specs.declared.Item.the-variants as item
 use Rattle.season_file.specs.declared.Opening.the-variants as opening
-use Rattle.season_run.specs.Season.{listed, Place, on, Opens, Goes}
+use Rattle.season_effects.specs.Events.{listed}
+use Rattle.season_run.specs.Season.{Place, on, Opens, Goes}
 
 -- the event found at a place, as one of the list
 abbrev pub listedAt : List ℕ → Place → Found → Event

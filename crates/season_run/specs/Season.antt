@@ -1,20 +1,18 @@
 -- A run of the season program (document 01): what each turn prints and leaves, and the whole run's output for an input. An event does to the record what it
--- does in a list of the ledger machine (ledger/specs/Ledger.antt), which is the post-condition of the call. Assumes nothing.
+-- does in a list of the ledger machine (season_effects/specs/Events.antt), which is the post-condition of the call. Assumes nothing.
 use mathlib.Core.Path.{_≡_}
 use mathlib.Core.List.{List, [], _++_}
 use Prim.Native.Nat.{ℕ, suc, _*_, _≤_, _<_}
 use lib.ListN.{length, take, drop, replicate}
 use Rattle.gates.specs.Gates.{encodeGate}
 use Rattle.gates.specs.Valid.{Valid}
-use Rattle.params.specs.declared.Params.{Params}
-use Rattle.code.specs.Calls.{EncodePost, Decoded}
-use Rattle.ledger.specs.Ledger.{Held, begun, Step, update, repair, decode, reconfigure, call, damage, inForce}
-use Rattle.ledger.specs.Ledger as ledger
+use Rattle.code.specs.Calls.{EncodePost}
+use Rattle.ledger.specs.Ledger.{Held, begun, Step}
 use Rattle.season_file.specs.File.{bytesOf, openingOf, itemAt, kindOf}
 use Rattle.season_lines.specs.Lines.{lineOf, Wrote}
 use Rattle.season_answers.specs.Answers.{answerOf}
+use Rattle.season_effects.specs.Events.{listed, Prints, heldIn}
 use Rattle.season_file.specs.declared.Event.{Event}
-use Rattle.season_file.specs.declared.Event.the-variants.{Update, Repair, Damage, Decode, Reconfigure}
 use Rattle.season_file.specs.declared.Header.{Header}
 use Rattle.season_file.specs.declared.Fault.{Fault}
 use Rattle.season_file.specs.declared.Found.{Found}
@@ -26,29 +24,6 @@ use Rattle.season_run.specs.declared.Next.the-variants as next
 use Rattle.season_run.specs.declared.Turn.{Turn}
 
 -- ---- one event
-
--- The file's event as one of a list of the ledger machine: a call is given what is in force, its blocks are the input's bytes, and a buffer that it fills held
--- zeros.
-abbrev pub listed : Held → List ℕ → Event → ledger.Event
-listed h input (Update f) = call (inForce h) (update (bytesOf input (f .change)) (f .to .0))
-listed h input (Repair f) = call (inForce h) (repair (f .from .0) (f .lost .0))
-listed h input (Damage f) = damage (f .node .0) (bytesOf input (f .block))
-listed h input (Decode f) = call (inForce h) (decode (replicate (h .params .k * h .params .b) 0) (f .from .0))
-listed h input (Reconfigure f) =
-    call (inForce h) (reconfigure (f .shape) (replicate (f .shape .n * h .params .b) 0) (bytesOf input (f .message)) (f .from .0) (f .to .0))
-
--- an accepted reading's message
-pub record Read (h : Held) (answer from : ℕ) (message : List ℕ) : Type 0 where
-  pub served : answer ≡ 0 → Decoded (h .params) (h .codeword) from message
-  pub refused : (answer ≡ 0 → ⊥) → message ≡ []
-
--- "after an accepted reading the message": what the event's line ends with
-abbrev pub Prints : Held → Event → List ℕ → Type 0
-Prints h (Decode f) message = Read h (answerOf (h .params) (Decode f)) (f .from .0) message
-Prints h (Update _) message = message ≡ []
-Prints h (Repair _) message = message ≡ []
-Prints h (Damage _) message = message ≡ []
-Prints h (Reconfigure _) message = message ≡ []
 
 -- One event is tried: its line, and what is then held. The answer printed is that of the step.
 pub record Tried (input : List ℕ) (h : Held) (number : ℕ) (e : Event) (line : List ℕ) (h′ : Held) : Type 0 where
@@ -117,10 +92,6 @@ abbrev pub FileOutput : List ℕ → List ℕ → Type 0
 FileOutput file output = Season (take 65535 file) output
 
 -- ---- the contracts of the two functions
-
--- The record in force stands at the front of a buffer with room for any.
-abbrev pub heldIn : Params → List ℕ → Held
-heldIn a buffer = record { params = a; codeword = take (a .n * a .b) buffer }
 
 abbrev pub placeOf : State → List ℕ → Place
 placeOf s buffer = record { stands = heldIn (s .params) buffer; number = s .number; left = s .left; at = s .at }

@@ -2,10 +2,10 @@
 use super::Next;
 use super::State;
 use super::Turn;
-use super::effects::record_length;
 use super::idle;
 use super::last_line;
 use access::encode;
+use season_effects::record_length;
 use season_file::Header;
 use season_file::Opening;
 use season_file::parsing::open;

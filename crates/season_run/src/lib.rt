@@ -1,7 +1,6 @@
 // A season's run (document 01, "The season program"), one event at a time: the record in force stands in a buffer that the caller lends, and so does the
 // line that a turn prints.
 pub mod beginning;
-mod effects;
 pub mod turning;
 
 use params::Params;

@@ -2,12 +2,11 @@
 use super::Next;
 use super::State;
 use super::Turn;
-use super::effects::record_length;
-use super::effects::take_effect;
 use super::idle;
 use super::last_line;
-use season_answers::answer;
 use season_answers::kind_of;
+use season_effects::record_length;
+use season_effects::take_effect;
 use season_file::Found;
 use season_file::Item;
 use season_file::parsing::parse;
@@ -78,7 +77,7 @@ fn try_event(input: &[u8], s: State, found: Found, codeword: &mut [u8], line: &m
     try_within(input, s, found, codeword, line, &mut room)
 }
 
-// Its answer, its effect, its line.
+// Its answer and effect, its line.
 fn try_within(
     input: &[u8],
     s: State,
@@ -95,11 +94,16 @@ fn try_within(
     ensures { λ r. ⌜ Turned (Goes (now (input .entry)) (placeOf s (now (codeword .entry)))) (now (codeword .entry)) (now (line .entry)) r (now (codeword .exit)) (now (line .exit)) ⌝ }
 {
     let event = found.event;
-    let number = answer(s.params, event);
-    let effect = take_effect(s.params, input, event, number, codeword, room);
+    let effect = take_effect(s.params, input, event, codeword, room);
     let params = effect.params;
     let printed = effect.printed;
-    let written = write_line(line, s.number, kind_of(event), number, &room[..printed]);
+    let written = write_line(
+        line,
+        s.number,
+        kind_of(event),
+        effect.answer,
+        &room[..printed],
+    );
     Turn {
         written,
         next: Next::On(State {

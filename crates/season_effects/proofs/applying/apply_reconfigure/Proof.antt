@@ -1,25 +1,22 @@
 -- The call on the record, with the front of the room for the new one, which is then laid over the old one. Assumes nothing.
-use mathlib.Core.Path.{sym, _∙_, subst⁻¹}
-use mathlib.Core.List.{[]}
+use mathlib.Core.Path.{refl, sym, _∙_}
 use Prim.Native.Nat.{_*_, _≤_}
 use native.Mathlib.Omega.{arith}
 use denote.Ref.{now}
 use lib.Seq.{length-take-le}
 use Rattle.gates.proofs.Valid.{n-fits}
 use Rattle.params.specs.Params.{reshaped}
-use Rattle.season_file.specs.declared.Event.the-variants.{Reconfigure}
-use Rattle.season_run.specs.Turning.{Effected}
-use Rattle.season_run.proofs.Fronts.{blocks-room, front-length}
-use Rattle.season_run.proofs.Applied.{new-valid, reconfigure-applied}
+use Rattle.season_effects.proofs.Fronts.{blocks-room, front-length}
+use Rattle.season_effects.proofs.Applied.{new-valid, reconfigure-applied}
 use borrow.Author.Needs.{needs}
-use Rattle.season_run.proofs.effects.apply_reconfigure.Statement.{statement}
-use Rattle.season_run.proofs.effects.apply_reconfigure.Tie as tie
+use Rattle.season_effects.proofs.applying.apply_reconfigure.Statement.{statement}
+use Rattle.season_effects.proofs.applying.apply_reconfigure.Tie as tie
 
 -- the new record has room
 room-for : (c : tie.Start) → c .args .f .shape .n * c .args .a .b ≤ 32768
 room-for c =
     let t = c .args .f .shape in
-    blocks-room (reshaped (c .args .a) t) (t .n) (new-valid (c .args .a) (now (c .args .input)) (c .args .f) (c .pre .1 .1)) (omega arith)
+    blocks-room (reshaped (c .args .a) t) (t .n) (new-valid (c .args .a) (c .args .f) (c .pre .1)) (omega arith)
 
 mul-old : tie.Need-mul-old
 mul-old c = n-fits (c .before .before .before .before .before .pre .0 .valid)
@@ -33,7 +30,7 @@ add-end c = search needs
 slice-reshare-prefix-reconfigure : tie.Need-slice-reshare-prefix-reconfigure
 slice-reshare-prefix-reconfigure c =
     let s = c .before .before .before .before .before .before .before .before in
-    omega (arith, s .pre .0 .room, blocks-room (s .args .a) (s .args .a .n) (s .pre .0 .valid) (omega arith))
+    omega (arith, s .pre .0 .record-room, blocks-room (s .args .a) (s .args .a .n) (s .pre .0 .valid) (omega arith))
 
 slice-aggregate-reconfigure : tie.Need-slice-aggregate-reconfigure
 slice-aggregate-reconfigure c = sym (length-take-le _ (now (c .before .before .before .before .before .before .before .before .before .args .codeword)) (slice-reshare-prefix-reconfigure (c .before)))
@@ -48,7 +45,7 @@ part-reconfigure-end : tie.Need-part-reconfigure-end
 part-reconfigure-end c = search needs
 
 slice-relend-prefix-reconfigure : tie.Need-slice-relend-prefix-reconfigure
-slice-relend-prefix-reconfigure c = let s = c .before .before .before .before .before .before .before .before .before .before in omega (arith, s .pre .1 .0, room-for s)
+slice-relend-prefix-reconfigure c = let s = c .before .before .before .before .before .before .before .before .before .before in omega (arith, s .pre .0 .work-room, room-for s)
 
 slice-aggregate-reconfigure-2 : tie.Need-slice-aggregate-reconfigure-2
 slice-aggregate-reconfigure-2 c =
@@ -64,7 +61,7 @@ slice-reshare-prefix-copy-block c =
     omega (
       arith,
       room-for s,
-      s .pre .1 .0,
+      s .pre .0 .work-room,
       front-length (s .args .f .shape .n * s .args .a .b) (now (s .args .room))
           (c .before .before .before .reconfigure .last .1 .1 .1 .1 .1 .1 .0) (slice-relend-prefix-reconfigure (c .before .before .before .before .before))
           (c .before .before .before .reconfigure .kept .1 .1 .1 .1 .1 .1 .0 ∙ sym (slice-aggregate-reconfigure-2 (c .before .before .before .before))),
@@ -84,13 +81,13 @@ same-length-2 c = search needs
 
 returns : tie.Need-returns
 returns c =
-    let s = c .before .before .before .before .before .before .before .before .before .before .before .before .before .before .before .before .before .before .before in
-    subst⁻¹ (Effected (s .args .a) (now (s .args .input)) (Reconfigure (s .args .f)) (now (s .args .codeword)) (reshaped (s .args .a) (s .args .f .shape)) [])
-    (c .before .before .copy-block .ensures)
-    (reconfigure-applied (s .args .a) (now (s .args .input)) (s .args .f) (s .pre .1 .1) (now (s .args .codeword)) (now (s .args .room)) _ _ (s .pre .0) (s .pre .1 .0)
-    (c .before .before .before .before .before .before .before .reconfigure .kept .1 .1 .1 .1 .1 .1 .0
-    ∙ sym (slice-aggregate-reconfigure-2 (c .before .before .before .before .before .before .before .before)))
-    (c .before .before .before .before .before .before .before .reconfigure .ensures))
+    let s = c .before .before .before .before .before .before .before .before .before .before .before .before .before .before .before .before .before .before .before in (
+      refl,
+      reconfigure-applied (s .args .a) (now (s .args .input)) (s .args .f) (s .pre .1) (now (s .args .codeword)) (now (s .args .room)) _ _ (s .pre .0)
+          (c .before .before .before .before .before .before .before .reconfigure .kept .1 .1 .1 .1 .1 .1 .0
+          ∙ sym (slice-aggregate-reconfigure-2 (c .before .before .before .before .before .before .before .before)))
+          (c .before .before .before .before .before .before .before .reconfigure .ensures) _ (c .before .before .copy-block .ensures),
+    )
 
 pub apply-reconfigure-spec : {M : Type 1} → statement M
 apply-reconfigure-spec =

@@ -1,4 +1,5 @@
 -- The node is one of 1..n, and its block becomes the bytes given. Assumes nothing.
+use mathlib.Core.Path.{refl}
 use Prim.Native.Nat.{_+_, _-_, _*_, _≤_, _<_}
 use native.Mathlib.Omega.{arith}
 use denote.Ref.{now}
@@ -6,15 +7,15 @@ use Rattle.base.proofs.Parts.{row-ends}
 use Rattle.gates.specs.Valid.{DamageAccepted}
 use Rattle.season_answers.specs.Answers.{answerOf}
 use Rattle.gates.proofs.Valid.{damage-accepted}
-use Rattle.season_run.proofs.Fronts.{blocks-room}
-use Rattle.season_run.proofs.Applied.{damage-applied}
+use Rattle.season_effects.proofs.Fronts.{blocks-room}
+use Rattle.season_effects.proofs.Applied.{damage-applied}
 use borrow.Author.Needs.{needs}
-use Rattle.season_run.proofs.effects.apply_damage.Statement.{statement}
-use Rattle.season_run.proofs.effects.apply_damage.Tie as tie
+use Rattle.season_effects.proofs.applying.apply_damage.Statement.{statement}
+use Rattle.season_effects.proofs.applying.apply_damage.Tie as tie
 
 node : (c : tie.Start) → DamageAccepted (c .args .a .n) (c .args .f .node .0)
 unfolding answerOf
-node c = damage-accepted _ _ .0 (c .pre .1)
+node c = damage-accepted _ _ .0 (c .pre .1 .1 .1)
 
 below : (c : tie.Start) → c .args .f .node .0 - 1 < c .args .a .n
 below c = omega (arith, node c .node-low, node c .node-high)
@@ -22,7 +23,7 @@ below c = omega (arith, node c .node-low, node c .node-high)
 -- the block ends within the record
 ends : (c : tie.Start) → (c .args .f .node .0 - 1) * c .args .a .b + c .args .a .b ≤ 32768
 ends c =
-    row-ends (c .args .a .n) (c .args .f .node .0 - 1) (c .args .a .b) 32768 (below c) (blocks-room (c .args .a) (c .args .a .n) (c .pre .0 .valid) (omega arith))
+    row-ends (c .args .a .n) (c .args .f .node .0 - 1) (c .args .a .b) 32768 (below c) (blocks-room (c .args .a) (c .args .a .n) (c .pre .0) (omega arith))
 
 add-end : tie.Need-add-end
 add-end c = search needs
@@ -46,7 +47,7 @@ part-copy-block-start : tie.Need-part-copy-block-start
 part-copy-block-start c = search needs
 
 part-copy-block-end : tie.Need-part-copy-block-end
-part-copy-block-end c = let s = c .before .before .before .before .before .before in omega (arith, ends s, s .pre .0 .room)
+part-copy-block-end c = let s = c .before .before .before .before .before .before in omega (arith, ends s, s .pre .1 .0)
 
 sub-copy-block-2 : tie.Need-sub-copy-block-2
 sub-copy-block-2 c = search needs
@@ -65,9 +66,11 @@ same-length c = search needs
 
 returns : tie.Need-returns
 returns c =
-    let s = c .before .before .before .before .before .before .before .before .before .before .before in
-    damage-applied (s .args .a) (now (s .args .input)) (s .args .f) (now (s .args .codeword)) (s .pre .0) (s .args .f .node .0 - 1) (omega (arith, node s .node-low))
-    (below s) (s .pre .1) _ (c .before .before .copy-block .ensures)
+    let s = c .before .before .before .before .before .before .before .before .before .before .before in (
+      refl,
+      damage-applied (s .args .a) (now (s .args .input)) (s .args .f) (now (s .args .codeword)) (s .pre .0) (s .pre .1 .0) (s .pre .1 .1 .0) (s .args .f .node .0 - 1)
+          (omega (arith, node s .node-low)) (below s) (s .pre .1 .1 .1) _ (c .before .before .copy-block .ensures),
+    )
 
 pub apply-damage-spec : {M : Type 1} → statement M
 apply-damage-spec =

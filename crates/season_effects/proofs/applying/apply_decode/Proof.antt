@@ -1,14 +1,14 @@
 -- The call on the record, with the front of the room for the message. Assumes nothing.
-use mathlib.Core.Path.{sym, _∙_}
+use mathlib.Core.Path.{refl, sym, _∙_}
 use native.Mathlib.Omega.{arith}
 use denote.Ref.{now}
 use lib.Seq.{length-take-le}
 use Rattle.gates.proofs.Valid.{n-fits, k-fits}
-use Rattle.season_run.proofs.Fronts.{blocks-room}
-use Rattle.season_run.proofs.Applied.{decode-applied}
+use Rattle.season_effects.proofs.Fronts.{blocks-room}
+use Rattle.season_effects.proofs.Applied.{decode-applied}
 use borrow.Author.Needs.{needs}
-use Rattle.season_run.proofs.effects.apply_decode.Statement.{statement}
-use Rattle.season_run.proofs.effects.apply_decode.Tie as tie
+use Rattle.season_effects.proofs.applying.apply_decode.Statement.{statement}
+use Rattle.season_effects.proofs.applying.apply_decode.Tie as tie
 
 mul-length : tie.Need-mul-length
 mul-length c = n-fits (c .before .before .before .pre .0)
@@ -36,9 +36,9 @@ same-length c = search needs
 returns : tie.Need-returns
 returns c =
     let s = c .before .before .before .before .before .before .before .before .before in (
+      refl,
       λ input. decode-applied (s .args .a) input (s .args .f) (now (s .args .codeword)) (now (s .args .room)) _ _ (s .pre .0) (s .pre .1 .0 .0) (s .pre .1 .0 .1)
           (s .pre .1 .1) (c .before .before .decode .kept .1 .1 .1 .0 ∙ sym (slice-aggregate-decode-2 (c .before .before .before))) (c .before .before .decode .ensures),
-      blocks-room (s .args .a) (s .args .a .k) (s .pre .0) (omega arith),
     )
 
 pub apply-decode-spec : {M : Type 1} → statement M

@@ -34,10 +34,10 @@ use Rattle.season_file.specs.declared.RepairFields.{RepairFields}
 use Rattle.season_file.specs.declared.DamageFields.{DamageFields}
 use Rattle.season_file.specs.declared.DecodeFields.{DecodeFields}
 use Rattle.season_file.specs.declared.ReconfigureFields.{ReconfigureFields}
-use Rattle.season_run.specs.Season.{listed, Prints, heldIn}
-use Rattle.season_run.specs.Turning.{Ready, Effected}
-use Rattle.season_run.proofs.Events.{span-length, gate, answer-is-gate, answered}
-use Rattle.season_run.proofs.Fronts.{blocks-room, front-take, front-drop, front-length, over-front, part-is}
+use Rattle.season_effects.specs.Events.{listed, Prints, heldIn}
+use Rattle.season_effects.specs.Effects.{Stretch, Ready, Effected, laid, Taken, EffectPost}
+use Rattle.season_effects.proofs.Answered.{stretch-length, gate, answer-is-gate, answered}
+use Rattle.season_effects.proofs.Fronts.{blocks-room, front-take, front-drop, front-length, over-front, part-is}
 
 -- an event that leaves the given record at the front
 fronted : (a a′ : Params) (input : List ℕ) (e : Event) (buffer new message : List ℕ) → a′ .n * a′ .b ≤ length buffer → length new ≡ a′ .n * a′ .b
@@ -65,34 +65,46 @@ front-full : (a : Params) (buffer : List ℕ) → Valid a → length buffer ≡ 
 front-full a buffer v room =
     let nb : a .n * a .b ≤ 32768 = blocks-room a (a .n) v (omega arith) in length-take-le (a .n * a .b) buffer (omega arith)
 
+-- ---- the room
+
+-- nothing is laid in it
+pub quiet : (q : ℕ) (a : Params) (input : List ℕ) (e : Event) (buffer room buffer′ : List ℕ) → [] ≡ laid q e [] (take (a .n * a .b) buffer′)
+    → Effected a input e buffer a [] buffer′ → Taken a input e buffer room (record { params = a; answer = q; printed = 0 }) buffer′ room
+quiet q a input e buffer room buffer′ none x = record { effected = x; printed-fits = omega arith; work = []; work-is = none; room-is = refl }
+
+abbrev Quiet : Params → List ℕ → Event → List ℕ → List ℕ → List ℕ → Type 0
+Quiet a input e buffer room buffer′ = Taken a input e buffer room (record { params = a; answer = 0; printed = 0 }) buffer′ room
+
 -- ---- change and rebuild
 
-pub update-applied : (a : Params) (input : List ℕ) (f : UpdateFields) (buffer new : List ℕ) (answer : ℕ) → Ready a input (Update f) buffer
-    → length new ≡ a .n * a .b
+pub update-applied : (a : Params) (input : List ℕ) (f : UpdateFields) (buffer new : List ℕ) (answer : ℕ) → Valid a → length buffer ≡ 32768
+    → Stretch (length input) (f .change) (a .k * a .b) → length new ≡ a .n * a .b
     → UpdatePost a (take (f .change .at + f .change .count - f .change .at) (drop (f .change .at) input)) (f .to .0) (take (a .n * a .b) buffer) answer new
-    → Effected a input (Update f) buffer a [] (new ++ drop (a .n * a .b) buffer)
-update-applied a input f buffer new answer h full post =
-    fronted a a input (Update f) buffer new [] (omega (arith, blocks-room a (a .n) (h .valid) (omega arith), h .room)) full refl
-    (answered (heldIn a buffer) input (Update f) (front-full a buffer (h .valid) (h .room)) (h .inside) (h .counted)
+    → (room : List ℕ) → Quiet a input (Update f) buffer room (new ++ drop (a .n * a .b) buffer)
+update-applied a input f buffer new answer v hb s full post room =
+    quiet 0 a input (Update f) buffer room _ refl
+    (fronted a a input (Update f) buffer new [] (omega (arith, blocks-room a (a .n) v (omega arith))) full refl
+    (answered (heldIn a buffer) input (Update f) (front-full a buffer v hb) s
     (updated answer new
-    (subst (λ (d : List ℕ). UpdatePost a d (f .to .0) (take (a .n * a .b) buffer) answer new) (part-is input (f .change)) post)))
+    (subst (λ (d : List ℕ). UpdatePost a d (f .to .0) (take (a .n * a .b) buffer) answer new) (part-is input (f .change)) post))))
 
 pub repair-applied : (a : Params) (input : List ℕ) (f : RepairFields) (buffer new : List ℕ) (answer : ℕ) → Valid a → length buffer ≡ 32768
     → length new ≡ a .n * a .b → RepairPost a (f .from .0) (f .lost .0) (take (a .n * a .b) buffer) answer new
-    → Effected a input (Repair f) buffer a [] (new ++ drop (a .n * a .b) buffer)
-repair-applied a input f buffer new answer v room full post =
-    fronted a a input (Repair f) buffer new [] (omega (arith, blocks-room a (a .n) v (omega arith))) full refl
-    (answered (heldIn a buffer) input (Repair f) (front-full a buffer v room) tt tt (repaired answer new post))
+    → (room : List ℕ) → Quiet a input (Repair f) buffer room (new ++ drop (a .n * a .b) buffer)
+repair-applied a input f buffer new answer v hb full post room =
+    quiet 0 a input (Repair f) buffer room _ refl
+    (fronted a a input (Repair f) buffer new [] (omega (arith, blocks-room a (a .n) v (omega arith))) full refl
+    (answered (heldIn a buffer) input (Repair f) (front-full a buffer v hb) tt (repaired answer new post)))
 
 -- ---- damage
 
-module _ (a : Params) (input : List ℕ) (f : DamageFields) (buffer : List ℕ) (h : Ready a input (Damage f) buffer) (j : ℕ) (node : f .node .0 ≡ suc j)
-    (below : j < a .n) where
+module _ (a : Params) (input : List ℕ) (f : DamageFields) (buffer : List ℕ) (v : Valid a) (hb : length buffer ≡ 32768)
+    (s : Stretch (length input) (f .block) (a .b)) (j : ℕ) (node : f .node .0 ≡ suc j) (below : j < a .n) where
   fits : a .n * a .b ≤ length buffer
-  fits = omega (arith, blocks-room a (a .n) (h .valid) (omega arith), h .room)
+  fits = omega (arith, blocks-room a (a .n) v (omega arith))
 
   given : length (bytesOf input (f .block)) ≡ a .b
-  given = span-length input (f .block) (h .inside) ∙ h .counted
+  given = stretch-length input (f .block) (a .b) s
 
   module _ (block : List ℕ) (full : length block ≡ a .b) where
     -- byte p of block i after the damage
@@ -114,7 +126,7 @@ module _ (a : Params) (input : List ℕ) (f : DamageFields) (buffer : List ℕ) 
     damaged-word : take (a .n * a .b) (putBlock (a .b) j buffer block) ≡ damagedWord a (take (a .n * a .b) buffer) (f .node .0) block
     unfolding damagedWord after
     damaged-word =
-        cells-ext (a .b) (a .n) _ _ (h .valid .b-low)
+        cells-ext (a .b) (a .n) _ _ (v .b-low)
         (length-take-le (a .n * a .b) _ (omega (arith, fits, putBlock-length (a .b) (a .n) j buffer block below fits full)))
         (length-blocks (a .b) (a .n) _)
         (λ i p hi hp. cell-take (a .b) (a .n) _ i p hi hp ∙ damaged-cell i p hi hp ∙ sym (cell-blocks (a .b) (a .n) after i p hi hp))
@@ -131,15 +143,16 @@ module _ (a : Params) (input : List ℕ) (f : DamageFields) (buffer : List ℕ) 
 
   pub damage-applied : answerOf a (Damage f) ≡ 0 → (new : List ℕ)
       → new ≡ over (partOf (a .b) j buffer) (take (f .block .at + f .block .count - f .block .at) (drop (f .block .at) input))
-      → Effected a input (Damage f) buffer a [] (putBlock (a .b) j buffer new)
+      → (room : List ℕ) → Quiet a input (Damage f) buffer room (putBlock (a .b) j buffer new)
   unfolding answerOf
-  damage-applied z new e =
+  damage-applied z new e room =
       let same : new ≡ bytesOf input (f .block) =
       e ∙ over-same (partOf (a .b) j buffer) _
       (ap length (part-is input (f .block)) ∙ given ∙ sym (length-partOf (a .b) j buffer (row-ends (a .n) j (a .b) (length buffer) below fits)))
       ∙ part-is input (f .block) in
       let full : length new ≡ a .b = ap length same ∙ given in
-      record {
+      quiet 0 a input (Damage f) buffer room _ refl
+      (record {
         prints = refl;
         step =
             subst₂
@@ -150,14 +163,14 @@ module _ (a : Params) (input : List ℕ) (f : DamageFields) (buffer : List ℕ) 
             z (damaged refl));
         length-is = putBlock-length (a .b) (a .n) j buffer new below fits full;
         rest = behind new full;
-      }
+      })
 
 -- ---- reading
 
 pub decode-applied : (a : Params) (input : List ℕ) (f : DecodeFields) (buffer room out : List ℕ) (answer : ℕ) → Valid a → length buffer ≡ 32768
     → length room ≡ 32768 → answerOf a (Decode f) ≡ 0 → length out ≡ a .k * a .b
     → DecodePost a (take (a .n * a .b) buffer) (f .from .0) (take (a .k * a .b) room) answer out
-    → Effected a input (Decode f) buffer a (take (a .k * a .b) (out ++ drop (a .k * a .b) room)) buffer
+    → Taken a input (Decode f) buffer room (record { params = a; answer = 0; printed = a .k * a .b }) buffer (out ++ drop (a .k * a .b) room)
 unfolding answerOf
 decode-applied a input f buffer room out answer v hb hr z full post =
     let kb : a .k * a .b ≤ 32768 = blocks-room a (a .k) v (omega arith) in
@@ -166,41 +179,58 @@ decode-applied a input f buffer room out answer v hb hr z full post =
     let lz = length-replicate {A = ℕ} (a .k * a .b) 0 in
     let zero : answer ≡ 0 = post .number ∙ cc in
     let d = post .served zero in
-    unmoved a input (Decode f) buffer _
-    (subst (λ (m : List ℕ). Prints (heldIn a buffer) (Decode f) m) (sym (front-take (a .k * a .b) room out (omega arith) full))
-    (record { served = λ _. d; refused = λ ne. absurd (ne z) }))
-    (answered (heldIn a buffer) input (Decode f) lb tt tt (decoded 0 out (record { number = cc; served = λ _. d; refused = λ ne. absurd (ne refl) })))
+    let front = front-take (a .k * a .b) room out (omega arith) full in
+    record {
+      effected =
+          unmoved a input (Decode f) buffer _
+          (subst (λ (m : List ℕ). Prints (heldIn a buffer) (Decode f) m) (sym front) (record { served = λ _. d; refused = λ ne. absurd (ne z) }))
+          (answered (heldIn a buffer) input (Decode f) lb tt (decoded 0 out (record { number = cc; served = λ _. d; refused = λ ne. absurd (ne refl) })));
+      printed-fits = kb;
+      work = out;
+      work-is = sym front;
+      room-is = ap (λ (m : ℕ). out ++ drop m room) (sym full);
+    }
 
 -- ---- rearrangement
 
-module _ (a : Params) (input : List ℕ) (f : ReconfigureFields) (z : answerOf a (Reconfigure f) ≡ 0) where
-  pub new-valid : Valid (reshaped a (f .shape))
-  unfolding answerOf
-  new-valid = reconfigure-accepted a (f .shape) _ _ _ _ _ .0 z .valid-new
+pub new-valid : (a : Params) (f : ReconfigureFields) → answerOf a (Reconfigure f) ≡ 0 → Valid (reshaped a (f .shape))
+unfolding answerOf
+new-valid a f z = reconfigure-accepted a (f .shape) _ _ _ _ _ .0 z .valid-new
 
-  pub reconfigure-applied : (buffer room new : List ℕ) (answer : ℕ) → Ready a input (Reconfigure f) buffer → length room ≡ 32768
-      → length new ≡ f .shape .n * a .b
-      → ReconfigurePost a (f .shape) (take (a .n * a .b) buffer) (f .from .0) (f .to .0)
-      (take (f .message .at + f .message .count - f .message .at) (drop (f .message .at) input)) (take (f .shape .n * a .b) room) answer new
-      → Effected a input (Reconfigure f) buffer (reshaped a (f .shape)) []
-      (over buffer (take (f .shape .n * a .b) (new ++ drop (f .shape .n * a .b) room)))
-  unfolding answerOf
-  reconfigure-applied buffer room new answer h hr full post =
-      let nb′ : f .shape .n * a .b ≤ 32768 = blocks-room (reshaped a (f .shape)) (f .shape .n) new-valid (omega arith) in
-      let lb = front-full a buffer (h .valid) (h .room) in
-      let lr = length-take-le (f .shape .n * a .b) room (omega arith) in
-      let lz = length-replicate {A = ℕ} (f .shape .n * a .b) 0 in
-      let pi = part-is input (f .message) in
-      let lm = span-length input (f .message) (h .inside) ∙ h .counted in
-      let zero : answer ≡ 0 = post .number ∙ cc in
-      let d =
-      subst (λ (x : List ℕ). Reconfigured a (f .shape) (take (a .n * a .b) buffer) (f .from .0) (f .to .0) x new) pi (post .served zero) in
-      subst (Effected a input (Reconfigure f) buffer (reshaped a (f .shape)) [])
-      (sym
-      (ap (over buffer) (front-take (f .shape .n * a .b) room new (omega arith) full) ∙ over-front (f .shape .n * a .b) buffer new (omega (arith, h .room)) full))
-      (fronted a (reshaped a (f .shape)) input (Reconfigure f) buffer new [] (omega (arith, h .room)) full refl
-      (answered (heldIn a buffer) input (Reconfigure f) lb (h .inside) (h .counted)
-      (reconfigured 0 new (record { number = cc; served = λ _. d; refused = λ ne. absurd (ne refl) }))))
+pub reconfigure-applied : (a : Params) (input : List ℕ) (f : ReconfigureFields) → answerOf a (Reconfigure f) ≡ 0
+    → (buffer room new : List ℕ) (answer : ℕ) → Ready a (length input) (Reconfigure f) (length buffer) (length room)
+    → length new ≡ f .shape .n * a .b
+    → ReconfigurePost a (f .shape) (take (a .n * a .b) buffer) (f .from .0) (f .to .0)
+    (take (f .message .at + f .message .count - f .message .at) (drop (f .message .at) input)) (take (f .shape .n * a .b) room) answer new
+    → (buffer′ : List ℕ) → buffer′ ≡ over buffer (take (f .shape .n * a .b) (new ++ drop (f .shape .n * a .b) room))
+    → Taken a input (Reconfigure f) buffer room (record { params = reshaped a (f .shape); answer = 0; printed = 0 }) buffer′
+    (new ++ drop (f .shape .n * a .b) room)
+unfolding answerOf
+reconfigure-applied a input f z buffer room new answer h full post buffer′ e =
+    let nb′ : f .shape .n * a .b ≤ 32768 = blocks-room (reshaped a (f .shape)) (f .shape .n) (new-valid a f z) (omega arith) in
+    let hr = h .work-room in
+    let fits : f .shape .n * a .b ≤ length buffer = omega (arith, h .record-room) in
+    let lb = front-full a buffer (h .valid) (h .record-room) in
+    let lr = length-take-le (f .shape .n * a .b) room (omega arith) in
+    let lz = length-replicate {A = ℕ} (f .shape .n * a .b) 0 in
+    let pi = part-is input (f .message) in
+    let lm = stretch-length input (f .message) _ (h .found) in
+    let zero : answer ≡ 0 = post .number ∙ cc in
+    let d =
+    subst (λ (x : List ℕ). Reconfigured a (f .shape) (take (a .n * a .b) buffer) (f .from .0) (f .to .0) x new) pi (post .served zero) in
+    let whole : buffer′ ≡ new ++ drop (f .shape .n * a .b) buffer =
+    e ∙ ap (over buffer) (front-take (f .shape .n * a .b) room new (omega arith) full) ∙ over-front (f .shape .n * a .b) buffer new fits full in
+    record {
+      effected =
+          subst (Effected a input (Reconfigure f) buffer (reshaped a (f .shape)) []) (sym whole)
+          (fronted a (reshaped a (f .shape)) input (Reconfigure f) buffer new [] fits full refl
+          (answered (heldIn a buffer) input (Reconfigure f) lb (h .found)
+          (reconfigured 0 new (record { number = cc; served = λ _. d; refused = λ ne. absurd (ne refl) }))));
+      printed-fits = omega arith;
+      work = new;
+      work-is = sym (ap (take (f .shape .n * a .b)) whole ∙ front-take (f .shape .n * a .b) buffer new fits full);
+      room-is = ap (λ (m : ℕ). new ++ drop m room) (sym full);
+    }
 
 -- ---- a refused event
 
@@ -222,8 +252,19 @@ refused-prints h (Damage f) ne = refl
 refused-prints h (Decode f) ne = record { served = λ z. absurd (ne z); refused = λ _. refl }
 refused-prints h (Reconfigure f) ne = refl
 
-pub refused-applied : (a : Params) (input : List ℕ) (e : Event) (buffer : List ℕ) → Ready a input e buffer → (answerOf a e ≡ 0 → ⊥)
-    → Effected a input e buffer a [] buffer
-refused-applied a input e buffer h ne =
-    let g = answer-is-gate (heldIn a buffer) input e (front-full a buffer (h .valid) (h .room)) (h .inside) (h .counted) in
-    unmoved a input e buffer [] (refused-prints (heldIn a buffer) e ne) (refused-step (heldIn a buffer) input e (answerOf a e) g ne)
+none-laid : (q : ℕ) (e : Event) (message codeword : List ℕ) → (q ≡ 0 → ⊥) → [] ≡ laid q e message codeword
+none-laid zero e message codeword ne = absurd (ne refl)
+none-laid (suc q) e message codeword ne = refl
+
+pub refused-applied : (q : ℕ) (a : Params) (input : List ℕ) (e : Event) (buffer room : List ℕ) → q ≡ answerOf a e → (q ≡ 0 → ⊥)
+    → EffectPost a input e buffer room (record { params = a; answer = q; printed = 0 }) buffer room
+refused-applied q a input e buffer room is ne =
+    record {
+      answer-is = is;
+      served = λ h.
+          let no : answerOf a e ≡ 0 → ⊥ = λ z. ne (is ∙ z) in
+          let g = answer-is-gate (heldIn a buffer) input e (front-full a buffer (h .valid) (h .record-room)) (h .found) in
+          quiet q a input e buffer room buffer (none-laid q e _ _ ne)
+          (unmoved a input e buffer [] (refused-prints (heldIn a buffer) e no) (refused-step (heldIn a buffer) input e (answerOf a e) g no));
+      refused = λ _. record { params-kept = refl; nothing-printed = refl; buffer-kept = refl; room-kept = refl };
+    }

@@ -1,23 +1,23 @@
 -- The call on the record and the change. Assumes nothing.
-use mathlib.Core.Path.{sym, _∙_}
+use mathlib.Core.Path.{refl, sym, _∙_}
 use native.Mathlib.Omega.{arith}
 use denote.Ref.{now}
 use lib.Seq.{length-take-le}
 use Rattle.gates.proofs.Valid.{n-fits}
-use Rattle.season_run.proofs.Fronts.{blocks-room}
-use Rattle.season_run.proofs.Applied.{update-applied}
+use Rattle.season_effects.proofs.Fronts.{blocks-room}
+use Rattle.season_effects.proofs.Applied.{update-applied}
 use borrow.Author.Needs.{needs}
-use Rattle.season_run.proofs.effects.apply_update.Statement.{statement}
-use Rattle.season_run.proofs.effects.apply_update.Tie as tie
+use Rattle.season_effects.proofs.applying.apply_update.Statement.{statement}
+use Rattle.season_effects.proofs.applying.apply_update.Tie as tie
 
 mul-length : tie.Need-mul-length
-mul-length c = n-fits (c .before .before .before .pre .valid)
+mul-length c = n-fits (c .before .before .before .pre .0)
 
 add-end : tie.Need-add-end
 add-end c = search needs
 
 slice-relend-prefix-update : tie.Need-slice-relend-prefix-update
-slice-relend-prefix-update c = let s = c .before .before .before .before in omega (arith, s .pre .room, blocks-room (s .args .a) (s .args .a .n) (s .pre .valid) (omega arith))
+slice-relend-prefix-update c = let s = c .before .before .before .before in omega (arith, s .pre .1 .0, blocks-room (s .args .a) (s .args .a .n) (s .pre .0) (omega arith))
 
 slice-aggregate-update : tie.Need-slice-aggregate-update
 slice-aggregate-update c = sym (length-take-le _ (now (c .before .before .before .before .before .args .codeword)) (slice-relend-prefix-update (c .before)))
@@ -39,9 +39,11 @@ same-length c = search needs
 
 returns : tie.Need-returns
 returns c =
-    let s = c .before .before .before .before .before .before .before .before .before in
-    update-applied (s .args .a) (now (s .args .input)) (s .args .f) (now (s .args .codeword)) _ _ (s .pre)
-    (c .before .before .update .kept .1 .0 ∙ sym (slice-aggregate-update (c .before .before .before .before))) (c .before .before .update .ensures)
+    let s = c .before .before .before .before .before .before .before .before .before in (
+      refl,
+      update-applied (s .args .a) (now (s .args .input)) (s .args .f) (now (s .args .codeword)) _ _ (s .pre .0) (s .pre .1 .0) (s .pre .1 .1)
+          (c .before .before .update .kept .1 .0 ∙ sym (slice-aggregate-update (c .before .before .before .before))) (c .before .before .update .ensures),
+    )
 
 pub apply-update-spec : {M : Type 1} → statement M
 apply-update-spec =

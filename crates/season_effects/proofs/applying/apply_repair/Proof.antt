@@ -1,14 +1,14 @@
 -- The call on the record. Assumes nothing.
-use mathlib.Core.Path.{sym, _∙_}
+use mathlib.Core.Path.{refl, sym, _∙_}
 use native.Mathlib.Omega.{arith}
 use denote.Ref.{now}
 use lib.Seq.{length-take-le}
 use Rattle.gates.proofs.Valid.{n-fits}
-use Rattle.season_run.proofs.Fronts.{blocks-room}
-use Rattle.season_run.proofs.Applied.{repair-applied}
+use Rattle.season_effects.proofs.Fronts.{blocks-room}
+use Rattle.season_effects.proofs.Applied.{repair-applied}
 use borrow.Author.Needs.{needs}
-use Rattle.season_run.proofs.effects.apply_repair.Statement.{statement}
-use Rattle.season_run.proofs.effects.apply_repair.Tie as tie
+use Rattle.season_effects.proofs.applying.apply_repair.Statement.{statement}
+use Rattle.season_effects.proofs.applying.apply_repair.Tie as tie
 
 mul-length : tie.Need-mul-length
 mul-length c = n-fits (c .before .before .pre .0)
@@ -27,8 +27,11 @@ same-length c = search needs
 
 returns : tie.Need-returns
 returns c =
-    λ input. let s = c .before .before .before .before .before .before in repair-applied (s .args .a) input (s .args .f) (now (s .args .codeword)) _ _ (s .pre .0)
-    (s .pre .1) (c .before .before .repair .kept .1 .0 ∙ sym (slice-aggregate-repair (c .before .before .before))) (c .before .before .repair .ensures)
+    let s = c .before .before .before .before .before .before in (
+      refl,
+      λ input. repair-applied (s .args .a) input (s .args .f) (now (s .args .codeword)) _ _ (s .pre .0) (s .pre .1)
+          (c .before .before .repair .kept .1 .0 ∙ sym (slice-aggregate-repair (c .before .before .before))) (c .before .before .repair .ensures),
+    )
 
 pub apply-repair-spec : {M : Type 1} → statement M
 apply-repair-spec =

@@ -1,0 +1,5 @@
+pub mod Fronts
+pub mod Answered
+pub mod Records
+mod Applied
+mod Readiness

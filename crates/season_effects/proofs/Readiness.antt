@@ -1,0 +1,42 @@
+-- Each answer of the tests decides whether an accepted event can take effect. Assumes nothing.
+use mathlib.Core.Path.{_≡_, subst⁻¹}
+use mathlib.Core.Bool.{Bool, false}
+use Prim.Native.Nat.{ℕ, _-_, _≤_, _<_}
+use native.Mathlib.Omega.{arith}
+use lib.Dec.{leb}
+use borrow.Author.Tests.{leb-true, leb-false}
+use Rattle.base.specs.Decided.{Decided}
+use Rattle.base.proofs.Decisions.{decided-false}
+use Rattle.gates.specs.Valid.{Valid}
+use Rattle.params.specs.declared.Params.{Params}
+use Rattle.season_file.specs.declared.Event.{Event}
+use Rattle.season_file.specs.declared.Span.{Span}
+use Rattle.season_effects.specs.Effects.{Stretch, InFull, Ready}
+
+module _ (input : ℕ) (s : Span) (count : ℕ) where
+  pub other-count : (s .count ≡ count → ⊥) → Decided (Stretch input s count) false
+  other-count ne = decided-false _ (λ h. ne (h .counted))
+
+  pub too-many : input < count → Decided (Stretch input s count) false
+  too-many lt = decided-false _ (λ h. omega (arith, h .counted, h .inside))
+
+  pub ends-by : s .count ≡ count → count ≤ input → Decided (Stretch input s count) (leb (s .at) (input - count))
+  ends-by e le =
+      record {
+        holds = λ t. record { inside = omega (arith, leb-true (s .at) (input - count) t); counted = e };
+        fails = λ t h. omega (arith, leb-false (s .at) (input - count) t, h .inside);
+      }
+
+module _ (a : Params) (input : ℕ) (e : Event) (buffer room : ℕ) where
+  pub not-ready : (Ready a input e buffer room → ⊥) → Decided (Ready a input e buffer room) false
+  not-ready = decided-false _
+
+  -- all else is in place: the event's block decides
+  pub ready-by : (t : Bool) (e′ : Event) → e ≡ e′ → Valid a → buffer ≡ 32768 → room ≡ 32768 → Decided (InFull a input e′) t
+      → Decided (Ready a input e buffer room) t
+  ready-by t e′ is v hb hr d =
+      subst⁻¹ (λ (e : Event). Decided (Ready a input e buffer room) t) is
+      (record {
+        holds = λ h. record { valid = v; found = d .holds h; record-room = hb; work-room = hr };
+        fails = λ h r. d .fails h (r .found);
+      })

@@ -1,0 +1,79 @@
+-- What the functions that take an event's effect promise. Assumes nothing.
+use mathlib.Core.Path.{_≡_}
+use mathlib.Core.List.{List, [], _++_}
+use mathlib.Core.Logic.{_⊎_}
+use Prim.Native.Nat.{ℕ, zero, suc, _+_, _*_, _≤_}
+use lib.ListN.{length, take, drop}
+use Rattle.gates.specs.Valid.{Valid}
+use Rattle.params.specs.declared.Params.{Params}
+use Rattle.ledger.specs.Ledger.{Step}
+use Rattle.season_answers.specs.Answers.{answerOf}
+use Rattle.season_file.specs.declared.Span.{Span}
+use Rattle.season_file.specs.declared.Event.{Event}
+use Rattle.season_file.specs.declared.Event.the-variants.{Update, Repair, Damage, Decode, Reconfigure}
+use Rattle.season_effects.specs.Events.{listed, Prints, heldIn}
+use Rattle.season_effects.specs.declared.Effect.{Effect}
+
+-- the length of a record, or 0 for parameters that no set-up accepts
+abbrev pub RecordLength : Params → ℕ → Type 0
+RecordLength a length = (Valid a × (length ≡ a .n * a .b)) ⊎ ((Valid a → ⊥) × (length ≡ 0))
+
+-- ---- what an event's effect is given; the input and the two buffers by their lengths
+
+-- a stretch of so many bytes, all within the input
+pub record Stretch (input : ℕ) (s : Span) (count : ℕ) : Type 0 where
+  pub inside : s .at + s .count ≤ input
+  pub counted : s .count ≡ count
+
+-- the event's block stands within the input and is as long as the parameters in force say
+abbrev pub InFull : Params → ℕ → Event → Type 0
+InFull a input (Update f) = Stretch input (f .change) (a .k * a .b)
+InFull a input (Repair f) = Unit {0}
+InFull a input (Damage f) = Stretch input (f .block) (a .b)
+InFull a input (Decode f) = Unit {0}
+InFull a input (Reconfigure f) = Stretch input (f .message) (f .shape .k * a .b)
+
+-- a record of valid parameters in a buffer with room for any, an event that was read in full, and room for a message or a new record
+pub record Ready (a : Params) (input : ℕ) (e : Event) (buffer room : ℕ) : Type 0 where
+  pub valid : Valid a
+  pub found : InFull a input e
+  pub record-room : buffer ≡ 32768
+  pub work-room : room ≡ 32768
+
+-- ---- what it leaves
+
+-- the parameters then in force, the message printed, and the record at the front of the buffer
+pub record Effected (a : Params) (input : List ℕ) (e : Event) (buffer : List ℕ) (params : Params) (message buffer′ : List ℕ) : Type 0 where
+  pub prints : Prints (heldIn a buffer) e message
+  pub step : Step (heldIn a buffer) (listed (heldIn a buffer) input e) (answerOf a e) (heldIn params buffer′)
+  pub length-is : length buffer′ ≡ length buffer
+  pub rest : drop (params .n * params .b) buffer′ ≡ drop (params .n * params .b) buffer
+
+-- what an event with an answer puts at the front of the room: an accepted reading the message, an accepted rearrangement the new record
+abbrev pub laid : ℕ → Event → List ℕ → List ℕ → List ℕ
+laid zero (Update _) message codeword = []
+laid zero (Repair _) message codeword = []
+laid zero (Damage _) message codeword = []
+laid zero (Decode _) message codeword = message
+laid zero (Reconfigure _) message codeword = codeword
+laid (suc _) e message codeword = []
+
+-- the message is the room's front, of as many bytes as the effect says
+pub record Taken (a : Params) (input : List ℕ) (e : Event) (buffer room : List ℕ) (r : Effect) (buffer′ room′ : List ℕ) : Type 0 where
+  pub effected : Effected a input e buffer (r .params) (take (r .printed) room′) buffer′
+  pub printed-fits : r .printed ≤ 32768
+  pub work : List ℕ
+  pub work-is : work ≡ laid (r .answer) e (take (r .printed) room′) (heldIn (r .params) buffer′ .codeword)
+  pub room-is : room′ ≡ work ++ drop (length work) room
+
+-- nothing is done
+pub record Still (a : Params) (buffer room : List ℕ) (r : Effect) (buffer′ room′ : List ℕ) : Type 0 where
+  pub params-kept : r .params ≡ a
+  pub nothing-printed : r .printed ≡ 0
+  pub buffer-kept : buffer′ ≡ buffer
+  pub room-kept : room′ ≡ room
+
+pub record EffectPost (a : Params) (input : List ℕ) (e : Event) (buffer room : List ℕ) (r : Effect) (buffer′ room′ : List ℕ) : Type 0 where
+  pub answer-is : r .answer ≡ answerOf a e
+  pub served : Ready a (length input) e (length buffer) (length room) → Taken a input e buffer room r buffer′ room′
+  pub refused : (Ready a (length input) e (length buffer) (length room) → ⊥) → Still a buffer room r buffer′ room′

@@ -1,0 +1,105 @@
+// What an event of a season file does to the record in force, which stands at the front of a buffer of 32,768 bytes: a call of the code, or damage.
+mod applying;
+
+use applying::apply;
+use gates::check_gate;
+use params::Params;
+use season_answers::answer;
+use season_file::Event;
+use season_file::Span;
+ghost use mathlib.Core.Path.{_≡_};
+ghost use lib.ListN.{length};
+ghost use Rattle.base.specs.Decided.{Decided};
+ghost use Rattle.season_answers.specs.Answers.{answerOf};
+ghost use Rattle.season_effects.specs.Effects.{RecordLength, Stretch, Ready, EffectPost};
+
+// What an event leaves.
+pub struct Effect {
+    // the parameters in force
+    pub params: Params,
+    pub answer: u32,
+    // how many bytes of the room are the message that it prints
+    pub printed: usize,
+}
+
+// The length of a record; 0 for parameters that no set-up accepts.
+pub fn record_length(a: Params) -> usize
+    ensures { λ r. ⌜ RecordLength a r ⌝ }
+{
+    if 32 < a.n {
+        return 0;
+    }
+    if 1024 < a.b {
+        return 0;
+    }
+    let length = a.n * a.b;
+    if check_gate(a, length) != 0 {
+        return 0;
+    }
+    length
+}
+
+// The event's answer and its effect, with room for a message or a new record: none where it is refused. The room has 32,768 bytes too; with other lengths, with
+// parameters that no set-up accepts, or where the event's block is not in the input, nothing is done.
+pub fn take_effect(
+    a: Params,
+    input: &[u8],
+    e: Event,
+    codeword: &mut [u8],
+    room: &mut [u8],
+) -> Effect
+    ensures { λ r. ⌜ EffectPost a (now (input .entry)) e (now (codeword .entry)) (now (room .entry)) r (now (codeword .exit)) (now (room .exit)) ⌝ }
+{
+    let number = answer(a, e);
+    if number != 0 {
+        return Effect {
+            params: a,
+            answer: number,
+            printed: 0,
+        };
+    }
+    if is_ready(a, input.len(), e, codeword.len(), room.len()) {
+        return apply(a, input, e, codeword, room);
+    }
+    Effect {
+        params: a,
+        answer: 0,
+        printed: 0,
+    }
+}
+
+// Whether an accepted event can take effect.
+fn is_ready(a: Params, input: usize, e: Event, codeword: usize, room: usize) -> bool
+    requires { ⌜ answerOf a e ≡ 0 ⌝ }
+    ensures { λ r. ⌜ Decided (Ready a input e codeword room) r ⌝ }
+{
+    if codeword != 32768 {
+        return false;
+    }
+    if room != 32768 {
+        return false;
+    }
+    if record_length(a) == 0 {
+        return false;
+    }
+    match e {
+        Event::Update(f) => is_stretch(input, f.change, a.k * a.b),
+        Event::Repair(_) => true,
+        Event::Damage(f) => is_stretch(input, f.block, a.b),
+        Event::Decode(_) => true,
+        Event::Reconfigure(f) => is_stretch(input, f.message, f.shape.k * a.b),
+    }
+}
+
+// Whether a stretch has so many bytes and ends within the input.
+fn is_stretch(input: usize, s: Span, count: usize) -> bool
+    ensures { λ r. ⌜ Decided (Stretch input s count) r ⌝ }
+{
+    if s.count != count {
+        return false;
+    }
+    if input < count {
+        return false;
+    }
+    s.at <= input - count
+}
