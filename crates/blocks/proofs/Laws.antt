@@ -6,8 +6,8 @@ use native.Mathlib.Nat.{not-suc-le-zero, le-of-suc-le-suc}
 use native.Mathlib.Omega.{arith}
 use lib.ListN.{length, getD, List·getD-eq-default}
 use Rattle.base.proofs.Seq.{length-tabulate, getD-tabulate, eq-tabulate}
-use Rattle.field.specs.Field.{add}
-use Rattle.blocks.specs.Bytes.{plus, over}
+use Rattle.field.specs.Field.{add, plus}
+use Rattle.blocks.specs.Bytes.{over}
 
 pub plus-length : (xs ys : List ℕ) → length (plus xs ys) ≡ length xs
 unfolding plus

@@ -9,9 +9,9 @@ use Rattle.base.specs.Seq.{tabulate}
 use Rattle.base.proofs.Cases.{lt-or}
 use Rattle.base.specs.Parts.{Filled}
 use Rattle.base.proofs.Seq.{eq-tabulate}
-use Rattle.field.specs.Field.{add}
+use Rattle.field.specs.Field.{add, plus}
 use Rattle.field.proofs.Addition.{add-zero-right}
-use Rattle.blocks.specs.Bytes.{plus, over}
+use Rattle.blocks.specs.Bytes.{over}
 
 filled-front : (f : ℕ → ℕ) (t : ℕ) (old new : List ℕ) → ((q : ℕ) → t ≤ q → q < length old → getD old q 0 ≡ f q) → Filled f t old new
     → new ≡ tabulate (length old) f

@@ -5,8 +5,6 @@ use mathlib.Core.List.{List}
 use Prim.Native.Nat.{ℕ}
 use lib.ListN.{length, getD}
 use Rattle.base.specs.Seq.{tabulate}
--- a sum of blocks is the sum of their bytes
-unfoldable pub use Rattle.field.specs.Field.{plus}
 
 -- ys laid over xs: byte p is that of ys, or that of xs where ys has none
 unfoldable pub over : List ℕ → List ℕ → List ℕ

@@ -2,7 +2,8 @@
 use base::shorter;
 ghost use mathlib.Core.Path.{_≡_};
 ghost use lib.ListN.{length, replicate};
-ghost use Rattle.blocks.specs.Bytes.{plus, over, Compared};
+ghost use Rattle.field.specs.Field.{plus};
+ghost use Rattle.blocks.specs.Bytes.{over, Compared};
 
 // dst += src. A byte that src does not have counts as 00.
 pub fn add_block(dst: &mut [u8], src: &[u8])

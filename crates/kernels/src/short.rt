@@ -12,7 +12,7 @@ ghost use Prim.Native.Nat.{ℕ, _+_, _*_, _≤_, _<_};
 ghost use lib.ListN.{length};
 ghost use Rattle.base.specs.Seq.{tabulate};
 ghost use Rattle.base.specs.Parts.{partOf, putBlock};
-ghost use Rattle.blocks.specs.Bytes.{plus};
+ghost use Rattle.field.specs.Field.{plus};
 ghost use Rattle.products.specs.Blocks.{Rows, Inside, Fits, Added, Spanned};
 ghost use Rattle.tiles.specs.Tiling.{tileAt, byBits, Raised, Chosen, Picked, Reached};
 

@@ -10,7 +10,7 @@ ghost use mathlib.Core.Path.{_≡_};
 ghost use Prim.Native.Nat.{ℕ, _+_, _*_, _≤_, _<_};
 ghost use lib.ListN.{length};
 ghost use Rattle.base.specs.Seq.{tabulate};
-ghost use Rattle.blocks.specs.Bytes.{plus};
+ghost use Rattle.field.specs.Field.{plus};
 ghost use Rattle.products.specs.Blocks.{Inside, Fits, Added, Spanned};
 ghost use Rattle.tiles.specs.Tiling.{groupsOf, sizeOf, byBits, Stepped, Gathered, Reached};
 

@@ -9,7 +9,7 @@ ghost use mathlib.Core.Path.{_≡_};
 ghost use Prim.Native.Nat.{_+_, _*_, _≤_};
 ghost use lib.ListN.{length};
 ghost use Rattle.base.specs.Parts.{partOf, putBlock};
-ghost use Rattle.blocks.specs.Bytes.{plus};
+ghost use Rattle.field.specs.Field.{plus};
 ghost use Rattle.products.specs.Blocks.{Inside};
 ghost use Rattle.tiles.specs.Tiling.{Grouped, tileAt, Raised, Chosen, Tabled};
 

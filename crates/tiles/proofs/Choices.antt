@@ -13,12 +13,12 @@ use Rattle.base.proofs.Cases.{lt-or, eq-or}
 use Rattle.base.specs.Parts.{partOf, putBlock}
 use Rattle.base.proofs.Parts.{put-before, put-in, length-partOf, partOf-at, putBlock-here, putBlock-other, putBlock-length}
 use Rattle.base.proofs.Seq.{tabulate-ext, zeros-at}
-use Rattle.field.specs.Field.{IsByte, Bytes, add, mul}
+use Rattle.field.specs.Field.{IsByte, Bytes, add, mul, plus}
 use Rattle.field.specs.FiniteSum.{sum}
 use Rattle.field.proofs.Addition.{add-comm, add-zero-left}
 use Rattle.field.proofs.FiniteSum.{sum-zero, sum-suc, sum-ext}
 use Rattle.field.proofs.Multiplication.{mul-zero-left, mul-one-left}
-use Rattle.blocks.specs.Bytes.{plus, over}
+use Rattle.blocks.specs.Bytes.{over}
 use Rattle.blocks.proofs.Laws.{plus-length, plus-at, over-length, over-at, over-past, over-same}
 use Rattle.picks.specs.Picks.{number}
 use Rattle.picks.proofs.Digits.{number-below, number-front}

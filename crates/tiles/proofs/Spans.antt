@@ -14,12 +14,11 @@ use Rattle.base.proofs.Cases.{lt-or}
 use Rattle.base.specs.Parts.{partOf}
 use Rattle.base.proofs.Parts.{partOf-at}
 use Rattle.base.proofs.Seq.{length-tabulate, getD-tabulate, eq-tabulate, tabulate-zeros}
-use Rattle.field.specs.Field.{Bytes, add, mul}
+use Rattle.field.specs.Field.{Bytes, add, mul, plus}
 use Rattle.field.specs.FiniteSum.{sum}
 use Rattle.field.proofs.Addition.{add-assoc, add-zero-right}
 use Rattle.field.proofs.FiniteSum.{sum-zero, sum-zeros, sum-last, sum-ext, sum-add, mul-sum}
 use Rattle.field.proofs.Multiplication.{mul-zero-left}
-use Rattle.blocks.specs.Bytes.{plus}
 use Rattle.blocks.proofs.Laws.{plus-length, plus-at}
 use Rattle.picks.specs.Picks.{bit, number}
 use Rattle.picks.proofs.Digits.{bit-lt, number-below, number-bits, digit-times}

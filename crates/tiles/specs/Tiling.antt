@@ -6,8 +6,7 @@ use Prim.Native.Nat.{ℕ, zero, suc, _+_, _-_, _*_, _/_, _≤_, _<_, min}
 use lib.ListN.{length, getD}
 use Rattle.base.specs.Seq.{tabulate, cell}
 use Rattle.base.specs.Parts.{partOf}
-use Rattle.blocks.specs.Bytes.{plus}
-use Rattle.field.specs.Field.{add, mul}
+use Rattle.field.specs.Field.{add, mul, plus}
 use Rattle.field.specs.FiniteSum.{sum}
 use Rattle.picks.specs.Picks.{bit, number}
 

@@ -3,7 +3,7 @@ use blocks::add_block;
 use blocks::copy_block;
 use field::double;
 ghost use mathlib.Core.Path.{_≡_};
-ghost use Rattle.blocks.specs.Bytes.{plus};
+ghost use Rattle.field.specs.Field.{plus};
 ghost use Rattle.tiles.specs.Tiling.{multiple};
 
 // x := 02·x

@@ -8,7 +8,7 @@ use lib.ListN.{length, getD}
 use Rattle.base.specs.Parts.{partOf}
 use Rattle.base.specs.Seq.{tabulate, cell}
 use Rattle.base.proofs.Seq.{length-tabulate}
-use Rattle.blocks.specs.Bytes.{plus}
+use Rattle.field.specs.Field.{plus}
 use Rattle.tiles.specs.Tiling.{byBits}
 use Rattle.tiles.proofs.Spans.{gathered-none, gathered-more, bits-none, bits-more}
 use Rattle.kernels.proofs.short.add_short_row.Statement.{statement}

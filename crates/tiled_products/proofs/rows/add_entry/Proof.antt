@@ -7,7 +7,7 @@ use borrow.Author.Needs.{needs}
 use lib.ListN.{length}
 use Rattle.base.specs.Seq.{cell}
 use Rattle.base.specs.Parts.{partOf}
-use Rattle.blocks.specs.Bytes.{plus}
+use Rattle.field.specs.Field.{plus}
 use Rattle.tiled_products.proofs.rows.add_entry.Statement.{statement}
 use Rattle.tiled_products.proofs.rows.add_entry.Tie as tie
 

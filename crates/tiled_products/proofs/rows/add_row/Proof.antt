@@ -7,7 +7,7 @@ use borrow.Author.Needs.{needs}
 use lib.ListN.{length}
 use Rattle.base.specs.Seq.{tabulate}
 use Rattle.base.proofs.Seq.{length-tabulate}
-use Rattle.blocks.specs.Bytes.{plus}
+use Rattle.field.specs.Field.{plus}
 use Rattle.tiles.specs.Tiling.{byBits}
 use Rattle.tiles.proofs.Spans.{bits-none, bits-more}
 use Rattle.tiled_products.proofs.rows.add_row.Statement.{statement}
