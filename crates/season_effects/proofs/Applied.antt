@@ -72,6 +72,7 @@ pub quiet : (q : ℕ) (a : Params) (input : List ℕ) (e : Event) (buffer room b
     → Effected a input e buffer a [] buffer′ → Taken a input e buffer room (record { params = a; answer = q; printed = 0 }) buffer′ room
 quiet q a input e buffer room buffer′ none x = record { effected = x; printed-fits = omega arith; work = []; work-is = none; room-is = refl }
 
+-- .. by an accepted event
 abbrev Quiet : Params → List ℕ → Event → List ℕ → List ℕ → List ℕ → Type 0
 Quiet a input e buffer room buffer′ = Taken a input e buffer room (record { params = a; answer = 0; printed = 0 }) buffer′ room
 

@@ -66,13 +66,14 @@ pub record Taken (a : Params) (input : List ℕ) (e : Event) (buffer room : List
   pub work-is : work ≡ laid (r .answer) e (take (r .printed) room′) (heldIn (r .params) buffer′ .codeword)
   pub room-is : room′ ≡ work ++ drop (length work) room
 
--- nothing is done
+-- nothing is done: all is as it was
 pub record Still (a : Params) (buffer room : List ℕ) (r : Effect) (buffer′ room′ : List ℕ) : Type 0 where
   pub params-kept : r .params ≡ a
   pub nothing-printed : r .printed ≡ 0
   pub buffer-kept : buffer′ ≡ buffer
   pub room-kept : room′ ≡ room
 
+-- Where the event is ready its effect is taken, which for a refused one is none; otherwise nothing is done. The answer is told in either case.
 pub record EffectPost (a : Params) (input : List ℕ) (e : Event) (buffer room : List ℕ) (r : Effect) (buffer′ room′ : List ℕ) : Type 0 where
   pub answer-is : r .answer ≡ answerOf a e
   pub served : Ready a (length input) e (length buffer) (length room) → Taken a input e buffer room r buffer′ room′
