@@ -1,4 +1,4 @@
-// A product as in `tiles`, but for few short blocks: in tiles of 16 bytes, of at most eight rows and four columns. The columns are one group, so that the table is small.
+// A product as in `tiled_products`, but for few short blocks: in tiles of 16 bytes, of at most eight rows and four columns. The columns are one group, so that the table is small.
 use base::shorter;
 use base::wide;
 use blocks::add_block;

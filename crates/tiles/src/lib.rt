@@ -17,8 +17,8 @@ pub fn double_tile(x: &mut [u8])
     }
 }
 
-// dst += src; as in add_block, a byte that src does not have counts as 00. A tile that is shorter than dst or longer is lent to add_block as a copy, so that src itself can
-// stay in registers.
+// dst += src; as in add_block, a byte that src does not have counts as 00. Where dst is as long as a tile, by the fast loop; else add_block is lent a copy of the tile, so
+// that the tile itself can stay in registers. More than 64 bytes are no tile.
 pub fn add_part(dst: &mut [u8], src: &[u8])
     ensures { λ _. ⌜ now (dst .exit) ≡ plus (now (dst .entry)) (now (src .entry)) ⌝ }
 {
