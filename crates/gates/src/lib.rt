@@ -151,10 +151,11 @@ pub fn view_gate(a: Params, codeword: usize, node: Node) -> u32
     ensures { λ r. ⌜ r ≡ viewGate a codeword (node .0) ⌝ }
 {
     let record = check_gate(a, codeword);
+    let number = damage_gate(a.n, node);
     if record != 0 {
         return record;
     }
-    damage_gate(a.n, node)
+    number
 }
 
 // Rearrangement, with the lengths of the old record, the new one and the new message, R and W'.
@@ -169,19 +170,19 @@ pub fn reconfigure_gate(
 ) -> u32
     ensures { λ r. ⌜ r ≡ reconfigureGate a t old new message (from .0) (to .0) ⌝ }
 {
-    let params = params_gate(a);
-    if params != 0 {
-        return params;
-    }
-    let shape = params_gate(Params {
+    let old_shape = params_gate(a);
+    let new_shape = params_gate(Params {
         k: t.k,
         r: t.r,
         w: t.w,
         n: t.n,
         b: a.b,
     });
-    if shape != 0 {
-        return shape + 10;
+    if old_shape != 0 {
+        return old_shape;
+    }
+    if new_shape != 0 {
+        return new_shape + 10;
     }
     answers_gate(
         (old == a.n * a.b) & (new == t.n * a.b) & (message == t.k * a.b),

@@ -34,24 +34,24 @@ abbrev rest : tie.After-params-gate → List Question
 rest c = lengthsAsked (lengths c) ∷ namesAsked (names c) ∷ sizesAsked (sizes c) ∷ []
 
 -- past the questions 1 to 5
-valid : (c : tie.Else1) → Valid (c .before .before .args .a)
-valid c = valid-of (c .before .before .args .a) (c .before .params-gate .ensures) (c .if1 .left)
+valid : (c : tie.Else1) → Valid (c .before .before .before .args .a)
+valid c = valid-of (c .before .before .before .args .a) (c .before .before .params-gate .ensures) (c .if1 .left)
 
 onward : (c : tie.Else1) {g : ℕ}
-    → let t = c .before .before .args .t in
-    g ≡ firstNo (shapeAsked 10 t ++ rest (c .before)) → g ≡ firstNo (paramsAsked (c .before .before .args .a) ++ shapeAsked 10 t ++ rest (c .before))
+    → let s = c .before .before .before .args in
+    g ≡ firstNo (shapeAsked 10 (s .t) ++ rest (c .before .before)) → g ≡ firstNo (paramsAsked (s .a) ++ shapeAsked 10 (s .t) ++ rest (c .before .before))
 onward c e =
-    let s = c .before .before .args in
-    passed (paramsAsked (s .a)) (shapeAsked 10 (s .t) ++ rest (c .before)) tt (c .before .params-gate .ensures) (c .if1 .left) e
+    let s = c .before .before .before .args in
+    passed (paramsAsked (s .a)) (shapeAsked 10 (s .t) ++ rest (c .before .before)) tt (c .before .before .params-gate .ensures) (c .if1 .left) e
 
 -- past the questions 11 to 14
 valid-new : (c : tie.Else2) → let s = c .before .before .before .before .args in Valid (reshaped (s .a) (s .t))
 valid-new c =
     let s = c .before .before .before .before .args in
-    valid-of (reshaped (s .a) (s .t)) (c .before .params-gate2 .ensures) (c .if2 .left)
+    valid-of (reshaped (s .a) (s .t)) (c .before .before .params-gate2 .ensures) (c .if2 .left)
 
 -- the numbers 11 to 14
-numbered : (c : tie.Then2) → c .before .params-gate2 .result + 10 ≡ firstNo (shapeAsked 10 (c .before .before .before .before .args .t))
+numbered : (c : tie.Then2) → c .before .before .params-gate2 .result + 10 ≡ firstNo (shapeAsked 10 (c .before .before .before .before .args .t))
 numbered c =
     let s = c .before .before .before .before .args in
     let t = s .t in
@@ -61,38 +61,38 @@ numbered c =
     ((leb 1 (t .k) && leb (t .k) (t .r)) && leb (t .k) (t .w))
     (eqb (t .r + t .w) (t .k + t .n))
     (leb 1 (s .a .b) && leb (s .a .b) 1024)
-    (ap₂ _&&_ (le-leb _ _ (valid (c .before .before) .b-low)) (le-leb _ _ (valid (c .before .before) .b-high)))
-    (c .before .params-gate2 .ensures)
+    (ap₂ _&&_ (le-leb _ _ (valid (c .before) .b-low)) (le-leb _ _ (valid (c .before) .b-high)))
+    (c .before .before .params-gate2 .ensures)
     (c .if2 .taken)
 
 params-gate-requires : tie.Need-params-gate-requires
 params-gate-requires c κs = search needs
 
+params-gate-requires-2 : tie.Need-params-gate-requires-2
+params-gate-requires-2 c κs = search needs
+
 returns : tie.Need-returns
 unfolding reconfigureGate
 returns c =
-    let s = c .before .before .args in
-    refused (paramsAsked (s .a)) (shapeAsked 10 (s .t) ++ rest (c .before)) (c .before .params-gate .ensures) (c .if1 .taken)
-
-params-gate-requires-2 : tie.Need-params-gate-requires-2
-params-gate-requires-2 c κs = search needs
+    let s = c .before .before .before .args in
+    refused (paramsAsked (s .a)) (shapeAsked 10 (s .t) ++ rest (c .before .before)) (c .before .before .params-gate .ensures) (c .if1 .taken)
 
 add-result : tie.Need-add-result
 add-result c =
     let s = c .before .before .before .before .args in
     let small =
-    subst (λ (x : ℕ). x ≤ 5) (sym (c .before .params-gate2 .ensures)) (at-most 5 (paramsAsked (reshaped (s .a) (s .t))) tt)
+    subst (λ (x : ℕ). x ≤ 5) (sym (c .before .before .params-gate2 .ensures)) (at-most 5 (paramsAsked (reshaped (s .a) (s .t))) tt)
     in
     omega (arith, small)
 
 returns-2 : tie.Need-returns-2
 unfolding reconfigureGate
 returns-2 c =
-    let e = c .before .before in
-    onward e (refused (shapeAsked 10 (e .before .before .args .t)) (rest (e .before)) (numbered c) (λ z. omega (arith, z)))
+    let e = c .before in
+    onward e (refused (shapeAsked 10 (e .before .before .before .args .t)) (rest (e .before .before)) (numbered c) (λ z. omega (arith, z)))
 
 mul-answers-gate : tie.Need-mul-answers-gate
-mul-answers-gate c = n-fits (valid (c .before .before .before))
+mul-answers-gate c = n-fits (valid (c .before .before))
 
 mul-answers-gate-2 : tie.Need-mul-answers-gate-2
 mul-answers-gate-2 c = n-fits (valid-new (c .before .before .before))
@@ -121,11 +121,12 @@ returns-3 c =
     let sized = c .before .before in
     let named = sized .before .before .before in
     let f = named .before .before .before .before .before .before .before in
-    let e = f .before .before in
-    let s = e .before .before .args in
+    let e = f .before in
+    let start = e .before .before in
+    let s = start .before .args in
     onward e
-    (passed (shapeAsked 10 (s .t)) (rest (e .before)) tt (sym (first-zero (shapeAsked 10 (s .t)) (shape-yes 10 (s .t) (valid-new f .shape) tt))) refl
-    (answered-to-8 (lengths (e .before)) (names (e .before)) (sizes (e .before))
+    (passed (shapeAsked 10 (s .t)) (rest start) tt (sym (first-zero (shapeAsked 10 (s .t)) (shape-yes 10 (s .t) (valid-new f .shape) tt))) refl
+    (answered-to-8 (lengths start) (names start) (sizes start)
     refl
     (ap₂ _&&_ (named .before .within .ensures) (named .within2 .ensures))
     (ap₂ (λ (x y : ℕ). eqb x (s .a .r) && eqb y (s .t .w)) (sized .before .before .size .ensures) (sized .size2 .ensures))
@@ -136,8 +137,8 @@ reconfigure-gate-spec =
     tie.close
     (tie.spec
     params-gate-requires
-    returns
     params-gate-requires-2
+    returns
     add-result
     returns-2
     mul-answers-gate

@@ -10,19 +10,20 @@ use Rattle.gates.proofs.view_gate.Tie as tie
 check-gate-requires : tie.Need-check-gate-requires
 check-gate-requires c κs = search needs
 
+damage-gate-requires : tie.Need-damage-gate-requires
+damage-gate-requires c κs = search needs
+
 returns : tie.Need-returns
 unfolding checkGate viewGate
 returns c =
-    let s = c .before .before .args in refused (checkAsked (s .a) (s .codeword)) (nodeAsked (s .a .n) (s .node .0) ∷ []) (c .before .check-gate .ensures) (c .if1 .taken)
-
-damage-gate-requires : tie.Need-damage-gate-requires
-damage-gate-requires c κs = search needs
+    let s = c .before .before .before .args in
+    refused (checkAsked (s .a) (s .codeword)) (nodeAsked (s .a .n) (s .node .0) ∷ []) (c .before .before .check-gate .ensures) (c .if1 .taken)
 
 returns-2 : tie.Need-returns-2
 unfolding checkGate viewGate damageGate
 returns-2 c =
     let s = c .before .before .before .args in
-    passed (checkAsked (s .a) (s .codeword)) (nodeAsked (s .a .n) (s .node .0) ∷ []) tt (c .before .before .check-gate .ensures) (c .before .if1 .left) (c .damage-gate .ensures)
+    passed (checkAsked (s .a) (s .codeword)) (nodeAsked (s .a .n) (s .node .0) ∷ []) tt (c .before .before .check-gate .ensures) (c .if1 .left) (c .before .damage-gate .ensures)
 
 pub view-gate-spec : {M : Type 1} → statement M
-view-gate-spec = tie.close (tie.spec check-gate-requires returns damage-gate-requires returns-2)
+view-gate-spec = tie.close (tie.spec check-gate-requires damage-gate-requires returns returns-2)
