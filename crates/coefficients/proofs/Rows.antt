@@ -1,11 +1,10 @@
 -- Rows of powers as the code writes them, one after the other. Assumes nothing.
 use mathlib.Core.Path.{_≡_, refl, sym, ap, ap₂, _∙_}
-use mathlib.Core.Bool.{Bool, true, false, not}
+use mathlib.Core.Bool.{Bool, true, not}
 use mathlib.Core.List.{List}
 use Prim.Native.Nat.{ℕ, zero, suc, _+_, _*_, _≤_, _<_}
 use native.Mathlib.Nat.{zero-lt-suc}
 use native.Mathlib.Omega.{arith}
-use borrow.Author.Tests.{eqb-true, eqb-false, not-true, not-false}
 use lib.Dec.{eqb}
 use lib.ListN.{length, getD, replicate}
 use lib.Seq.{ext-getD}
@@ -13,6 +12,7 @@ use Rattle.base.specs.Seq.{tabulate, blocks}
 use Rattle.base.proofs.Seq.{length-tabulate, getD-tabulate, tabulate-ext, tabulate-zeros, length-blocks}
 use Rattle.base.specs.Parts.{Blocked}
 use Rattle.base.proofs.Parts.{blocked-all}
+use Rattle.base.proofs.Decisions.{told-other}
 use Rattle.field.specs.Field.{mul, pow}
 use Rattle.field.proofs.Multiplication.{mul-comm, mul-zero-left}
 use Rattle.field.proofs.Exponents.{pow-suc, pow-add}
@@ -63,13 +63,7 @@ blocked-whole (suc b) n f t old new ho ht s = blocked-all (suc b) n f t old new 
 pub powers-kept : (points : List ℕ) (m : ℕ) (out : List ℕ) (fits : Bool) → fits ≡ eqb (length out) (length points * m) → not fits ≡ true
     → PowersPost points m out out
 powers-kept points m out fits r taken =
-    record {
-      written = λ room. absurd (eqb-false (length out) (length points * m) (sym r ∙ not-true fits taken) room);
-      kept = λ none. refl;
-    }
-
-pub has-room : (n m : ℕ) (out : List ℕ) (fits : Bool) → fits ≡ eqb (length out) (n * m) → not fits ≡ false → length out ≡ n * m
-has-room n m out fits r left = eqb-true (length out) (n * m) (sym r ∙ not-false fits left)
+    record { written = λ room. absurd (told-other (length out) (length points * m) fits r taken room); kept = λ none. refl }
 
 pub powers-made : (points : List ℕ) (m : ℕ) (old new : List ℕ) → length old ≡ length points * m → new ≡ powerRows m points → PowersPost points m old new
 powers-made points m old new room made = record { written = λ s. made; kept = λ none. absurd (none room) }

@@ -1,39 +1,28 @@
 -- Rows of coefficients applied to blocks, as the code does it: two products that fit, added one after the other, add the targets' values, by what the rows take
 -- to what. Assumes nothing.
-use mathlib.Core.Path.{_≡_, refl, sym, ap, ap₂, _∙_, subst, subst₂}
-use mathlib.Core.Bool.{Bool, true, false}
+use mathlib.Core.Path.{_≡_, sym, ap, ap₂, _∙_, subst, subst₂}
 use mathlib.Core.List.{List, _++_}
 use Prim.Native.Nat.{ℕ, _*_, _^_, _≤_, _<_}
 use native.Mathlib.Nat.{le-refl}
 use native.Mathlib.Omega.{arith}
-use lib.Dec.{eqb}
 use lib.ListN.{length, getD, take, drop}
 use lib.Seq.{length-take-le}
 use Rattle.base.specs.Seq.{cell}
 use Rattle.base.proofs.Buffers.{buffer-front}
 use Rattle.field.specs.Field.{Bytes, add, mul}
 use Rattle.field.specs.FiniteSum.{sum}
-use Rattle.field.proofs.Addition.{add-zero-left, add-zero-right, add-assoc}
-use Rattle.field.proofs.FiniteSum.{sum-ext, sum-add}
+use Rattle.field.proofs.Addition.{add-zero-right, add-assoc}
+use Rattle.field.proofs.FiniteSum.{sum-ext}
 use Rattle.field.proofs.Bytes.{cell-byte}
 use Rattle.interpolation.specs.Polynomial.{evaluate}
 use Rattle.params.specs.Nodes.{size, inOrder}
 use Rattle.code.specs.Points.{pointAt, pointsOf}
-use Rattle.products.specs.Blocks.{product, when, arriving, Fits, Added}
-use Rattle.products.proofs.Arriving.{arriving-ext, arriving-none}
+use Rattle.products.specs.Blocks.{product, arriving, Fits, Added}
+use Rattle.products.proofs.Arriving.{arriving-ext, arriving-none, arriving-add}
 use Rattle.coefficients.specs.Coefficients.{Extends, ExtendsPost}
 use Rattle.coefficients.proofs.Laws.{product-fits, first-length, first-inside, product-first}
 use Rattle.node_rows.proofs.Laws.{roomy, extends-nodes}
 use Rattle.extension.specs.Extending.{Extendable, Extended}
-
--- what arrives of two terms arrives of their sum
-arriving-add : (n : ℕ) (to : List ℕ) (f g : ℕ → ℕ) (j : ℕ) → add (arriving n to f j) (arriving n to g j) ≡ arriving n to (λ t. add (f t) (g t)) j
-unfolding arriving
-arriving-add n to f g j = sym (sum-add n _ _) ∙ sum-ext n _ _ (λ t ht. both (eqb (getD to t 0) j) (f t) (g t))
-  where
-    both : (b : Bool) (x y : ℕ) → add (when b x) (when b y) ≡ when b (add x y)
-    both true x y = refl
-    both false x y = add-zero-left 0
 
 module _ (b e at targets rows : ℕ) (message z places to columns leading gains : List ℕ) (out : ℕ)
     (ok : Extendable b e at targets places to (length message) (length z) out) (hr : rows ≡ size targets) (told : columns ≡ inOrder)

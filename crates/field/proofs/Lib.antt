@@ -3,5 +3,5 @@ pub mod Multiplication
 pub mod Doubling
 pub mod Exponents
 pub mod FiniteSum
-mod Kernel
+mod Steps
 pub mod Bytes

@@ -1,4 +1,4 @@
--- The field (document 01, "The field"): what a byte is, sum, product, power and inverse, and the table of powers.
+-- The field (document 01, "The field"): what a byte is, sum (of two lists too), product, power and inverse, and the rules of the tables of powers and exponents.
 -- No table and no algorithm of the code stands here. Assumes nothing.
 use mathlib.Core.Path.{_≡_}
 use mathlib.Core.List.{List}

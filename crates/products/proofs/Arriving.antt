@@ -12,7 +12,7 @@ use Rattle.base.proofs.Seq.{zeros-at}
 use native.Mathlib.Omega.{arith}
 use Rattle.field.specs.Field.{add}
 use Rattle.field.proofs.Addition.{add-zero-left}
-use Rattle.field.proofs.FiniteSum.{sum-zero, sum-zeros, sum-one, sum-last, sum-ext}
+use Rattle.field.proofs.FiniteSum.{sum-zero, sum-zeros, sum-one, sum-last, sum-ext, sum-add}
 use Rattle.products.specs.Blocks.{when, arriving, product, Inside, Fits, Added}
 use Rattle.products.proofs.Laws.{block-inside}
 
@@ -61,6 +61,15 @@ module _ (targets : List ℕ) (f : ℕ → ℕ) (j : ℕ) where
 pub arriving-ext : (n : ℕ) (targets : List ℕ) (f g : ℕ → ℕ) (j : ℕ) → ((i : ℕ) → i < n → f i ≡ g i) → arriving n targets f j ≡ arriving n targets g j
 unfolding arriving
 arriving-ext n targets f g j h = sum-ext n _ _ (λ i hi. ap (when (eqb (getD targets i 0) j)) (h i hi))
+
+-- what arrives of two terms arrives of their sum
+pub arriving-add : (n : ℕ) (to : List ℕ) (f g : ℕ → ℕ) (j : ℕ) → add (arriving n to f j) (arriving n to g j) ≡ arriving n to (λ t. add (f t) (g t)) j
+unfolding arriving
+arriving-add n to f g j = sym (sum-add n _ _) ∙ sum-ext n _ _ (λ t ht. both (eqb (getD to t 0) j) (f t) (g t))
+  where
+    both : (b : Bool) (x y : ℕ) → add (when b x) (when b y) ≡ when b (add x y)
+    both true x y = refl
+    both false x y = add-zero-left 0
 
 -- ---- targets in order: row i goes to block i
 

@@ -1,1 +1,2 @@
 mod Gated
+pub mod Records

@@ -1,5 +1,6 @@
-// What a line tells of an event of a season file: the number of its kind, and the answer, which is the gate of its call on the lengths that a run lends. No
-// field arithmetic.
+// What a line tells of an event of a season file: the number of its kind, and the answer, which is the gate of its call on the lengths that a run lends. And how
+// long the record in force is. No field arithmetic.
+use gates::check_gate;
 use gates::damage_gate;
 use gates::decode_gate;
 use gates::reconfigure_gate;
@@ -13,6 +14,7 @@ ghost use Rattle.season_file.specs.File.{kindOf};
 ghost use Rattle.season_file.specs.declared.Event.the-variants.{Reconfigure};
 ghost use Rattle.season_answers.specs.Answers.{answerOf};
 ghost use Rattle.season_answers.specs.Extents.{Extent};
+ghost use Rattle.season_answers.specs.Records.{RecordLength};
 
 // The number of the event's kind.
 pub fn kind_of(e: Event) -> u8
@@ -65,4 +67,21 @@ fn extent(count: usize, size: usize) -> usize
         return 0;
     }
     count * size
+}
+
+// The length of a record; 0 for parameters that no set-up accepts.
+pub fn record_length(a: Params) -> usize
+    ensures { λ r. ⌜ RecordLength a r ⌝ }
+{
+    if 32 < a.n {
+        return 0;
+    }
+    if 1024 < a.b {
+        return 0;
+    }
+    let length = a.n * a.b;
+    if check_gate(a, length) != 0 {
+        return 0;
+    }
+    length
 }

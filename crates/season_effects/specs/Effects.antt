@@ -1,7 +1,6 @@
 -- What the functions that take an event's effect promise. Assumes nothing.
 use mathlib.Core.Path.{_≡_}
 use mathlib.Core.List.{List, [], _++_}
-use mathlib.Core.Logic.{_⊎_}
 use Prim.Native.Nat.{ℕ, zero, suc, _+_, _*_, _≤_}
 use lib.ListN.{length, take, drop}
 use Rattle.gates.specs.Valid.{Valid}
@@ -13,10 +12,6 @@ use Rattle.season_file.specs.declared.Event.{Event}
 use Rattle.season_file.specs.declared.Event.the-variants.{Update, Repair, Damage, Decode, Reconfigure}
 use Rattle.season_effects.specs.Events.{listed, Prints, heldIn}
 use Rattle.season_effects.specs.declared.Effect.{Effect}
-
--- the length of a record, or 0 for parameters that no set-up accepts
-abbrev pub RecordLength : Params → ℕ → Type 0
-RecordLength a length = (Valid a × (length ≡ a .n * a .b)) ⊎ ((Valid a → ⊥) × (length ≡ 0))
 
 -- ---- what an event's effect is given; the input and the two buffers by their lengths
 

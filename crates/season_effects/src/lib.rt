@@ -2,16 +2,16 @@
 mod applying;
 
 use applying::apply;
-use gates::check_gate;
 use params::Params;
 use season_answers::answer;
+use season_answers::record_length;
 use season_file::Event;
 use season_file::Span;
 ghost use mathlib.Core.Path.{_≡_};
 ghost use lib.ListN.{length};
 ghost use Rattle.base.specs.Decided.{Decided};
 ghost use Rattle.season_answers.specs.Answers.{answerOf};
-ghost use Rattle.season_effects.specs.Effects.{RecordLength, Stretch, Ready, EffectPost};
+ghost use Rattle.season_effects.specs.Effects.{Stretch, Ready, EffectPost};
 
 // What an event leaves.
 pub struct Effect {
@@ -22,25 +22,8 @@ pub struct Effect {
     pub printed: usize,
 }
 
-// The length of a record; 0 for parameters that no set-up accepts.
-pub fn record_length(a: Params) -> usize
-    ensures { λ r. ⌜ RecordLength a r ⌝ }
-{
-    if 32 < a.n {
-        return 0;
-    }
-    if 1024 < a.b {
-        return 0;
-    }
-    let length = a.n * a.b;
-    if check_gate(a, length) != 0 {
-        return 0;
-    }
-    length
-}
-
 // The event's answer and its effect, with room for a message or a new record: none where it is refused. The room has 32,768 bytes too; with other lengths, with
-// parameters that no set-up accepts, or where the event's block is not in the input, nothing is done.
+// parameters that no set-up accepts, or where the event's block does not stand in the input in full, nothing is done.
 pub fn take_effect(
     a: Params,
     input: &[u8],

@@ -1,7 +1,7 @@
 -- What the file's definitions say of an event that was found: its block stands within the input and has its length, its bytes are bytes and its sets have 32 bits.
 -- By cases on its kind. Assumes nothing.
 use mathlib.Core.Path.{_≡_, refl, subst}
-use mathlib.Core.Bool.{Bool, true, false, cond as choose}
+use mathlib.Core.Bool.{Bool, true, false, cond}
 use mathlib.Core.List.{List}
 use Prim.Native.Nat.{ℕ, _+_, _*_, _^_, _≤_, _<_}
 use native.Mathlib.Omega.{arith}
@@ -41,7 +41,7 @@ choice-small input at h = omega (arith, h at, h (at + 1), h (at + 2), h (at + 2 
 
 -- the one choice that ends at a header
 header-of : (b₁ b₂ b₃ : Bool) (u v w : ℕ) (h hd : Header)
-    → choose b₁ (opening.Faulty u) (choose b₂ (choose b₃ (opening.Faulty v) (opening.Whole h)) (opening.Faulty w)) ≡ opening.Whole hd
+    → cond b₁ (opening.Faulty u) (cond b₂ (cond b₃ (opening.Faulty v) (opening.Whole h)) (opening.Faulty w)) ≡ opening.Whole hd
     → (b₃ ≡ false) × (h ≡ hd)
 header-of true b₂ b₃ u v w h hd e = let z : _≡_ {A = ℕ} 0 1 = cc in absurd (omega arith)
 header-of false true true u v w h hd e = let z : _≡_ {A = ℕ} 0 1 = cc in absurd (omega arith)
@@ -79,11 +79,11 @@ pub record Good (a : Params) (input : List ℕ) (e : Event) : Type 0 where
   pub found : InFull a (length input) e
   pub small : Bytes input → Small e
 
--- what holds of each kind's event and lengths holds of those that the tests of the kind choose
+-- what holds of each kind's event and lengths holds of those that the tests of the kind cond
 by-kind : {A : Type 0} (P : A → ℕ → ℕ → Type 0) (b₁ b₂ b₃ b₄ : Bool) {x₁ x₂ x₃ x₄ x₅ : A} {y₁ y₂ y₃ y₄ y₅ z₁ z₂ z₃ z₄ z₅ : ℕ}
     → P x₁ y₁ z₁ → P x₂ y₂ z₂ → P x₃ y₃ z₃ → P x₄ y₄ z₄ → P x₅ y₅ z₅
-    → P (choose b₁ x₁ (choose b₂ x₂ (choose b₃ x₃ (choose b₄ x₄ x₅)))) (choose b₁ y₁ (choose b₂ y₂ (choose b₃ y₃ (choose b₄ y₄ y₅))))
-    (choose b₁ z₁ (choose b₂ z₂ (choose b₃ z₃ (choose b₄ z₄ z₅))))
+    → P (cond b₁ x₁ (cond b₂ x₂ (cond b₃ x₃ (cond b₄ x₄ x₅)))) (cond b₁ y₁ (cond b₂ y₂ (cond b₃ y₃ (cond b₄ y₄ y₅))))
+    (cond b₁ z₁ (cond b₂ z₂ (cond b₃ z₃ (cond b₄ z₄ z₅))))
 by-kind P true b₂ b₃ b₄ p₁ p₂ p₃ p₄ p₅ = p₁
 by-kind P false true b₃ b₄ p₁ p₂ p₃ p₄ p₅ = p₂
 by-kind P false false true b₄ p₁ p₂ p₃ p₄ p₅ = p₃
@@ -101,7 +101,7 @@ event-good a input at kind =
 
 -- the one choice that ends at an event
 whole-of : (b₁ b₂ b₃ : Bool) (u v w : Fault) (g f : Found)
-    → choose b₁ (choose b₂ (item.Faulty u) (choose b₃ (item.Faulty v) (item.Whole g))) (item.Faulty w) ≡ item.Whole f → (b₃ ≡ false) × (g ≡ f)
+    → cond b₁ (cond b₂ (item.Faulty u) (cond b₃ (item.Faulty v) (item.Whole g))) (item.Faulty w) ≡ item.Whole f → (b₃ ≡ false) × (g ≡ f)
 whole-of true true b₃ u v w g f e = let z : _≡_ {A = ℕ} 0 1 = cc in absurd (omega arith)
 whole-of true false true u v w g f e = let z : _≡_ {A = ℕ} 0 1 = cc in absurd (omega arith)
 whole-of true false false u v w g f e = (refl, cc)

@@ -20,7 +20,6 @@ use Rattle.season_file.specs.declared.Event.the-variants.{Update, Repair, Damag
 use Rattle.season_file.specs.declared.DecodeFields.{DecodeFields}
 use Rattle.season_file.specs.declared.Found.{Found}
 use Rattle.season_file.specs.declared.Item.the-variants as item
-use Rattle.season_file.specs.declared.Opening.the-variants as opening
 use Rattle.season_effects.specs.Events.{listed, Prints}
 use Rattle.season_run.specs.Season.{Tried, Place, Outcome, on, Goes}
 use Rattle.season_run.specs.Season as season

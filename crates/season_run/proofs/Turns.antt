@@ -29,7 +29,8 @@ use Rattle.season_run.specs.declared.Next.the-variants as next
 use Rattle.season_run.specs.declared.State.{State}
 use Rattle.season_run.specs.declared.Turn.{Turn}
 use Rattle.season_effects.specs.Events.{heldIn}
-use Rattle.season_effects.specs.Effects.{RecordLength, Effected}
+use Rattle.season_answers.specs.Records.{RecordLength}
+use Rattle.season_effects.specs.Effects.{Effected}
 use Rattle.season_effects.proofs.Fronts.{blocks-room, front-take, front-drop, front-length, part-is}
 
 -- a turn that prints a last line

@@ -1,5 +1,6 @@
--- A run of the season program (document 01): what each turn prints and leaves, and the whole run's output for an input. An event does to the record what it
--- does in a list of the ledger machine (season_effects/specs/Events.antt), which is the post-condition of the call. Assumes nothing.
+-- A run of the season program (document 01): what each turn prints and leaves, and the whole run's output for an input. An event does to the record what
+-- the one that stands for it (season_effects/specs/Events.antt) does in a list of the ledger machine (ledger/specs/Ledger.antt): the post-condition of its call.
+-- Assumes nothing.
 use mathlib.Core.Path.{_≡_}
 use mathlib.Core.List.{List, [], _++_}
 use Prim.Native.Nat.{ℕ, suc, _*_, _≤_, _<_}

@@ -1,4 +1,4 @@
--- What the functions behind `begin` and `turn` promise. Assumes nothing.
+-- What a last line without message is, for the functions behind `begin` and `turn`. Assumes nothing.
 use mathlib.Core.Path.{_≡_}
 use mathlib.Core.List.{List, []}
 use Prim.Native.Nat.{ℕ}

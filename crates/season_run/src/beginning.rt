@@ -5,7 +5,7 @@ use super::Turn;
 use super::idle;
 use super::last_line;
 use access::encode;
-use season_effects::record_length;
+use season_answers::record_length;
 use season_file::Header;
 use season_file::Opening;
 use season_file::parsing::open;

@@ -5,7 +5,7 @@ use super::Turn;
 use super::idle;
 use super::last_line;
 use season_answers::kind_of;
-use season_effects::record_length;
+use season_answers::record_length;
 use season_effects::take_effect;
 use season_file::Found;
 use season_file::Item;

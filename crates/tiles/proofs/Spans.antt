@@ -143,7 +143,7 @@ module _ (t b at w rows stride : ℕ) (src places coeffs room table none picks :
     row-product =
         bits-sum 8 (omega arith) ∙ sum-ext (length places) _ _ (λ j hj. ap (λ (q : ℕ). mul q (x j)) (number-bits (c j) (cell-byte stride coeffs bytes i j)))
 
--- ---- a span of every block, row by row
+-- ---- a row added to its target's span, as the code does it
 
 module _ (b at w : ℕ) (targets : List ℕ) (f : ℕ → ℕ → ℕ) (old : List ℕ) (fits : at + w ≤ b) where
   -- as the code adds a row to at most m bytes

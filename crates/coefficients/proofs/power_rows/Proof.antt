@@ -4,7 +4,8 @@ use Prim.Native.Nat.{_*_}
 use borrow.Author.Needs.{needs}
 use denote.Ref.{now}
 use lib.ListN.{length}
-use Rattle.coefficients.proofs.Rows.{powers-kept, has-room, powers-made}
+use Rattle.base.proofs.Decisions.{told-equal}
+use Rattle.coefficients.proofs.Rows.{powers-kept, powers-made}
 use Rattle.coefficients.proofs.power_rows.Statement.{statement}
 use Rattle.coefficients.proofs.power_rows.Tie as tie
 
@@ -31,7 +32,7 @@ slice-aggregate-fill-rows-2 c = search needs
 room : (c : tie.Else1) → length (now (c .before .before .before .before .args .out)) ≡ length (now (c .before .before .before .before .args .points)) * c .before .before .before .before .args .m
 room c =
     let s = c .before .before .before .before .args in
-    has-room (length (now (s .points))) (s .m) (now (s .out)) (c .before .is-product .result) (c .before .is-product .ensures) (c .if1 .left)
+    told-equal (length (now (s .out))) (length (now (s .points)) * s .m) (c .before .is-product .result) (c .before .is-product .ensures) (c .if1 .left)
 
 fill-rows-requires : tie.Need-fill-rows-requires
 fill-rows-requires c κs = (c .before .before .before .before .logs .ensures, (c .before .before .powers .ensures, room (c .before .before .before .before .before)))

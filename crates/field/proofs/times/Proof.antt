@@ -5,7 +5,7 @@ use native.Mathlib.Omega.{arith}
 use borrow.Author.Needs.{needs}
 use Rattle.field.specs.Field.{add}
 use Rattle.field.proofs.Multiplication.{mul-comm}
-use Rattle.field.proofs.Kernel.{Stepped, stepped-none, stepped-more, stepped-all, bit-times-byte}
+use Rattle.field.proofs.Steps.{Stepped, stepped-none, stepped-more, stepped-all, bit-times-byte}
 use Rattle.field.proofs.times.Statement.{statement}
 use Rattle.field.proofs.times.Tie as tie
 

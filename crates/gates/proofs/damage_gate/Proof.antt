@@ -1,4 +1,4 @@
--- One question, in two tests. Assumes nothing.
+-- One question, one test of two comparisons. Assumes nothing.
 use mathlib.Core.Path.{sym, _∙_}
 use borrow.Author.Needs.{needs}
 use borrow.Author.Tests.{not-true, not-false}

@@ -11,7 +11,7 @@ use borrow.Author.Needs.{needs}
 use Rattle.season_effects.specs.Effects.{InFull, Ready}
 use Rattle.season_effects.proofs.Applied.{new-valid}
 use Rattle.season_effects.proofs.Readiness.{not-ready, ready-by}
-use Rattle.season_effects.proofs.Records.{no-record, some-record}
+use Rattle.season_answers.proofs.Records.{no-record, some-record}
 use Rattle.season_effects.proofs.is_ready.Statement.{statement}
 use Rattle.season_effects.proofs.is_ready.Tie as tie
 

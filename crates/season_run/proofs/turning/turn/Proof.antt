@@ -1,7 +1,7 @@
 -- Each test decides whether a turn can start. Assumes nothing.
 use mathlib.Core.Path.{refl}
 use native.Mathlib.Omega.{arith}
-use Rattle.season_effects.proofs.Records.{no-record, some-record}
+use Rattle.season_answers.proofs.Records.{no-record, some-record}
 use borrow.Author.Needs.{needs}
 use Rattle.season_run.proofs.turning.turn.Statement.{statement}
 use Rattle.season_run.proofs.turning.turn.Tie as tie

@@ -4,8 +4,8 @@ use mathlib.Core.Path.{refl, sym, _∙_}
 use native.Mathlib.Omega.{arith}
 use Rattle.gates.proofs.Valid.{check-accepted, blocks-most}
 use borrow.Author.Needs.{needs}
-use Rattle.season_effects.proofs.record_length.Statement.{statement}
-use Rattle.season_effects.proofs.record_length.Tie as tie
+use Rattle.season_answers.proofs.record_length.Statement.{statement}
+use Rattle.season_answers.proofs.record_length.Tie as tie
 
 returns : tie.Need-returns
 returns c = inr (λ v. omega (arith, v .shape .n-high), refl)

@@ -6,7 +6,7 @@ use native.Mathlib.Nat.{mul-pos}
 use native.Mathlib.Omega.{arith}
 use Rattle.gates.specs.Valid.{Valid}
 use Rattle.params.specs.declared.Params.{Params}
-use Rattle.season_effects.specs.Effects.{RecordLength}
+use Rattle.season_answers.specs.Records.{RecordLength}
 
 pub no-record : (a : Params) (size : ℕ) → RecordLength a size → size ≡ 0 → Valid a → ⊥
 no-record a size r z v = ⊎-elim (λ w. omega (arith, w .1, mul-pos {m = a .n} {n = a .b} (v .shape .n-low) (v .b-low))) (λ w. w .0 v) r
