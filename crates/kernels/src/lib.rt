@@ -10,7 +10,7 @@ ghost use Prim.Native.Nat.{_≤_};
 ghost use Rattle.products.specs.Blocks.{Added};
 
 // A matrix of coefficients times the blocks of src at the given places: row i of the product is added to block targets[i] of out. Blocks have b bytes, and row i of
-// the coefficients begins at i·stride. Where the product does not fit the slices, nothing is written.
+// the coefficients begins at i·stride. Where the product does not fit the slices, nothing is written: the tiled product refuses it.
 pub fn add_product(
     out: &mut [u8],
     targets: &[u8],
@@ -22,22 +22,21 @@ pub fn add_product(
 )
     ensures { λ _. ⌜ Added b stride (now (src .entry)) (now (targets .entry)) (now (places .entry)) (now (coeffs .entry)) (now (out .entry)) (now (out .exit)) ⌝ }
 {
-    if !prefers_short(targets.len(), b, places.len()) {
-        add_tiled(out, targets, b, src, places, coeffs, stride);
-        return;
+    if prefers_short(targets.len(), b, places.len()) {
+        if fits(
+            b,
+            stride,
+            targets,
+            places,
+            src.len(),
+            coeffs.len(),
+            out.len(),
+        ) {
+            short::add_short(out, targets, b, src, places, coeffs, stride);
+            return;
+        }
     }
-    if !fits(
-        b,
-        stride,
-        targets,
-        places,
-        src.len(),
-        coeffs.len(),
-        out.len(),
-    ) {
-        return;
-    }
-    short::add_short(out, targets, b, src, places, coeffs, stride);
+    add_tiled(out, targets, b, src, places, coeffs, stride);
 }
 
 // Whether a product goes in short tiles: two rows or more, few bytes in all, and no more than the eight rows and four columns that short tiles have room for.
