@@ -1,8 +1,8 @@
 // The library for C and Rust: each call on plain numbers and byte slices, under a name of its own. A slice is a pointer and a length there.
 // Answers are document 01's numbers.
-use access::decode;
-use access::encode;
 use code::Verdict;
+use decoding::decode;
+use encoding::encode;
 use maintenance::check;
 use maintenance::repair;
 use matrix::Inversion;

@@ -1,7 +1,7 @@
 // The effect of an accepted event, by its kind.
 use super::Effect;
-use access::decode;
 use blocks::copy_block;
+use decoding::decode;
 use maintenance::repair;
 use params::Params;
 use reconfiguration::reconfigure;

@@ -4,7 +4,7 @@ use super::State;
 use super::Turn;
 use super::idle;
 use super::last_line;
-use access::encode;
+use encoding::encode;
 use season_answers::record_length;
 use season_file::Header;
 use season_file::Opening;

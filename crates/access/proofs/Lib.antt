@@ -1,4 +1,0 @@
-mod Accepted
-mod ReadBack
-mod PowerBlocks
-mod Joined
