@@ -1,4 +1,4 @@
--- The customer's three demands on one page. Demands 1 and 2 are the contracts of the calls (src/ of the crates views, access, updates, maintenance, reconfiguration
+-- The customer's three demands on one page. Demands 1 and 2 are the contracts of the calls (src/ of the crates views, encoding, decoding, updates, maintenance, reconfiguration
 -- and matrix): each is proved to meet the post-condition named here, for all arguments (view_status answers viewGate). This page says what such a post-condition
 -- settles, and states demand 3. Assumes nothing.
 use mathlib.Core.Path.{_≡_, refl, sym, _∙_}

@@ -96,7 +96,7 @@ fn spread_128(
 }
 
 // The same, with room for the rows that take the change, and the values at the nodes outside `to`, to the values at the takers. The values outside are all
-// 00, so that the leading rows alone are applied. What the product reads is lent anew, for the reason that encode_within of crate access gives.
+// 00, so that the leading rows alone are applied. What the product reads is lent anew, for the reason that encode_within of crate encoding gives.
 fn spread_within(
     a: Params,
     change: &[u8],
