@@ -1,13 +1,13 @@
 // Document 01's reading: from the blocks of some nodes back to the message. The call is its gate, and then a private core: a small matrix of coefficients is found
 // once and applied to the blocks by one product.
+use block_numbers::in_order;
+use block_numbers::places_of;
 use blocks::clear;
 use gates::decode_gate;
 use kernels::add_product;
 use node_rows::decoding_rows;
 use params::NodeSet;
 use params::Params;
-use params::in_order;
-use params::places_of;
 ghost use Prim.Native.Nat.{_*_, _≤_};
 ghost use lib.ListN.{length};
 ghost use Rattle.params.specs.Nodes.{size};

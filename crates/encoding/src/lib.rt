@@ -1,12 +1,12 @@
 // Document 01's set-up: from message and slack to the blocks of all nodes. The call is its gate, and then a private core: message and slack are laid side by side,
 // so that one product by the powers of the nodes' points gives all blocks.
+use block_numbers::in_order;
 use blocks::clear;
 use blocks::copy_block;
 use gates::encode_gate;
 use kernels::add_product;
 use node_rows::encoding_rows;
 use params::Params;
-use params::in_order;
 ghost use Prim.Native.Nat.{_+_, _*_, _≤_};
 ghost use lib.ListN.{length, take, drop};
 ghost use Rattle.params.specs.Params.{working};

@@ -1,13 +1,13 @@
 // Blocks from parts and blocks: at each byte place, the values of a polynomial at some nodes from its leading coefficients and its values at others. The rows of
 // coefficients are found once, for all blocks and byte places.
 use base::is_product;
+use block_numbers::in_order;
+use block_numbers::places_of;
 use blocks::clear;
 use kernels::add_product;
 use node_rows::extending_rows;
 use params::NodeSet;
 use params::Params;
-use params::in_order;
-use params::places_of;
 use placing::clear_blocks;
 use placing::has_blocks;
 ghost use Prim.Native.Nat.{_+_, _*_, _≤_};

@@ -1,9 +1,6 @@
 // Code parameters, nodes and node sets (document 01, "The arrangement and the record"). No field arithmetic.
 pub mod node_set;
-mod places;
 
-pub use places::in_order;
-pub use places::places_of;
 ghost use mathlib.Core.Path.{_≡_};
 ghost use Prim.Native.Nat.{_-_, _^_, min};
 ghost use Rattle.params.specs.Params.{slackParts, working};

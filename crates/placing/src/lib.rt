@@ -1,12 +1,12 @@
 // The blocks of a set's nodes within a codeword: put, cleared, compared. Node i's block is block i - 1. Each function holds for slices of any lengths.
 use base::is_product;
 use base::wide;
+use block_numbers::places_of;
 use blocks::clear;
 use blocks::copy_block;
 use blocks::differs;
 use params::Node;
 use params::NodeSet;
-use params::places_of;
 ghost use Rattle.base.specs.Decided.{Decided};
 ghost use Rattle.placing.specs.Placed.{BlocksIn, PutPost, ClearPost, ComparePost};
 

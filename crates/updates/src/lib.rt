@@ -1,5 +1,7 @@
 // Document 01's difference and change: what a change of the message adds to the blocks of the nodes that it writes, so that the others keep theirs. Each is its
 // gate, and then a private core: a small matrix of coefficients is found once, and one product adds what the change makes to the blocks that it goes to.
+use block_numbers::in_order;
+use block_numbers::places_of;
 use blocks::clear;
 use gates::delta_gate;
 use gates::update_gate;
@@ -7,8 +9,6 @@ use kernels::add_product;
 use node_rows::extending_rows;
 use params::NodeSet;
 use params::Params;
-use params::in_order;
-use params::places_of;
 ghost use Prim.Native.Nat.{_*_, _≤_};
 ghost use lib.ListN.{length};
 ghost use Rattle.code.specs.Calls.{DeltaPost, UpdatePost};

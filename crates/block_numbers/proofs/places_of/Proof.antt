@@ -6,9 +6,9 @@ use borrow.Author.Needs.{needs}
 use lib.ListN.{length, getD}
 use Rattle.base.specs.Parts.{Filled}
 use Rattle.base.proofs.Filled.{filled-none, filled-more}
 use Rattle.params.proofs.Placing.{node-inside, node-positive, places-told}
-use Rattle.params.proofs.places.places_of.Statement.{statement}
-use Rattle.params.proofs.places.places_of.Tie as tie
+use Rattle.block_numbers.proofs.places_of.Statement.{statement}
+use Rattle.block_numbers.proofs.places_of.Tie as tie
 
 abbrev Inv-loop : tie.InvT-loop
 Inv-loop out₀ count j₀ out j = (j ≤ count) × Filled (λ i. getD out₀ i 0 - 1) j out₀ out

@@ -1,7 +1,7 @@
 // Block numbers: the block of node i is block i - 1 of a record.
-use super::NodeSet;
+use params::NodeSet;
 ghost use mathlib.Core.Path.{_≡_};
 ghost use Rattle.params.specs.Nodes.{inOrder, Placing};
 
 // The block numbers 0, 1, 2, .., 31.
 pub fn in_order() -> [u8; 32]
