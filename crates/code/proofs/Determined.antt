@@ -21,7 +21,7 @@ use Rattle.params.specs.declared.Params.{Params}
 use Rattle.params.specs.declared.Shape.{Shape}
 use Rattle.params.proofs.Sets.{rank-lt, node-at-rank, entry, within-size}
 use Rattle.gates.proofs.Valid.{encode-accepted, check-accepted, decode-accepted, delta-accepted, update-accepted, repair-accepted, reconfigure-accepted}
-use Rattle.code.specs.Code.{block, upTo}
+use Rattle.code.specs.Code.{block, used, upTo}
 use Rattle.code.specs.Calls.{Post, Encoded, EncodePost, Decoded, DecodePost, Differences, DeltaPost, Updated, UpdatePost, Repaired, RepairPost, writes, Reconfigured, ReconfigurePost, number, nodeNumber, Proper, Same, Checked, CheckPost, ViewPost}
 use Rattle.code.specs.declared.Verdict.{Verdict}
 use Rattle.code.specs.declared.Verdict.the-variants.{Refused, Agrees, Differs}
@@ -108,7 +108,7 @@ module _ (a : Params) (codeword : List ℕ) (from : ℕ) (old : List ℕ) where
       post-met _ (Decoded a codeword from) old
       (λ z.
       let g = decode-accepted a _ _ _ .0 z in
-      let e = pair-exists a (g .valid) (has from) (from-reads a from (g .valid) (g .from-within) (g .from-size)) codeword bytes in
+      let e = pair-exists a (g .valid) (used a from) (from-reads a from (g .valid) (g .from-within) (g .from-size)) codeword bytes in
       (e .0, record { slack = e .1; gives = e .2 }))
 
   pub decode-once : Once (DecodePost a codeword from old)
@@ -116,7 +116,7 @@ module _ (a : Params) (codeword : List ℕ) (from : ℕ) (old : List ℕ) where
       post-once _ (Decoded a codeword from) old
       (λ z new new′ d d′.
       let g = decode-accepted a _ _ _ .0 z in
-      pair-unique a (g .valid) (has from) (from-reads a from (g .valid) (g .from-within) (g .from-size)) new new′ (d .slack) (d′ .slack) codeword
+      pair-unique a (g .valid) (used a from) (from-reads a from (g .valid) (g .from-within) (g .from-size)) new new′ (d .slack) (d′ .slack) codeword
       (d .gives) (d′ .gives) .0)
 
 -- ---- delta
@@ -192,7 +192,7 @@ module _ (a : Params) (from lost : ℕ) (old : List ℕ) where
       post-met _ (Repaired a old from lost) old
       (λ z.
       let g = repair-accepted a _ _ _ .0 z in
-      let e = pair-exists a (g .valid) (has from) (from-reads a from (g .valid) (g .from-within) (g .from-size)) old bytes in
+      let e = pair-exists a (g .valid) (used a from) (from-reads a from (g .valid) (g .from-within) (g .from-size)) old bytes in
       let n = split-exists (a .b) (a .n) (has lost) (λ j. block a (e .0) (e .1) (suc j)) (cell (a .b) old) in
       (n .0, record { message = e .0; slack = e .1; gives = e .2; length-is = n .1 .length-is; rebuilt = n .1 .passed; kept = n .1 .other }))
 
@@ -204,7 +204,7 @@ module _ (a : Params) (from lost : ℕ) (old : List ℕ) where
       let full = from-reads a from (g .valid) (g .from-within) (g .from-size) in
       split-unique (a .b) (a .n) (has lost) (λ j. block a (r .message) (r .slack) (suc j)) (cell (a .b) old) (λ j. block a (r′ .message) (r′ .slack) (suc j)) new
       new′ (g .valid .b-low)
-      (λ j. pair-blocks a (g .valid) (has from) full (r .message) (r′ .message) (r .slack) (r′ .slack) old (r .gives) (r′ .gives) (suc j))
+      (λ j. pair-blocks a (g .valid) (used a from) full (r .message) (r′ .message) (r .slack) (r′ .slack) old (r .gives) (r′ .gives) (suc j))
       (record { length-is = r .length-is; passed = r .rebuilt; other = r .kept })
       (record { length-is = r′ .length-is; passed = r′ .rebuilt; other = r′ .kept }))
 
@@ -216,7 +216,7 @@ module _ (a : Params) (t : Shape) (old : List ℕ) (from to : ℕ) (x buffer : L
       post-met _ (Reconfigured a t old from to x) buffer
       (λ z.
       let g = reconfigure-accepted a t _ _ _ _ _ .0 z in
-      let e = pair-exists a (g .valid) (has from) (from-reads a from (g .valid) (g .from-within) (g .from-size)) old bytes in
+      let e = pair-exists a (g .valid) (used a from) (from-reads a from (g .valid) (g .from-within) (g .from-size)) old bytes in
       let s =
       slack-exists (reshaped a t) (g .valid-new) (has to) (written-leaves (reshaped a t) to (g .valid-new) (g .to-within) (g .to-size)) x
       (block a (e .0) (e .1)) (block-byte a (e .0) (e .1)) in
@@ -241,7 +241,7 @@ module _ (a : Params) (t : Shape) (old : List ℕ) (from to : ℕ) (x buffer : L
       (λ z new new′ r r′.
       let g = reconfigure-accepted a t _ _ _ _ _ .0 z in
       let before =
-      pair-blocks a (g .valid) (has from) (from-reads a from (g .valid) (g .from-within) (g .from-size)) (r .oldMessage) (r′ .oldMessage) (r .oldSlack)
+      pair-blocks a (g .valid) (used a from) (from-reads a from (g .valid) (g .from-within) (g .from-size)) (r .oldMessage) (r′ .oldMessage) (r .oldSlack)
       (r′ .oldSlack) old (r .gives) (r′ .gives) in
       let same =
       slack-unique (reshaped a t) (g .valid-new) (has to) (written-leaves (reshaped a t) to (g .valid-new) (g .to-within) (g .to-size)) x

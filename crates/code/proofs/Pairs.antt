@@ -20,8 +20,9 @@ use Rattle.params.specs.Params.{slackParts, working}
 use Rattle.gates.specs.Valid.{Valid}
 use Rattle.params.specs.declared.Params.{Params}
 use Rattle.params.proofs.Sets.{length-nodes, rank-lt, node-at-rank, entry, distinct, count-not, count-range, within-size}
-use Rattle.gates.proofs.Valid.{working-is, working-le, slack-add}
-use Rattle.code.specs.Code.{point, block, Gives, upTo}
+use Rattle.params.proofs.Lowest.{count-lowest, lowest-passes}
+use Rattle.gates.proofs.Valid.{working-le-r, working-le, slack-add}
+use Rattle.code.specs.Code.{point, block, Gives, used, upTo}
 use Rattle.code.specs.Slacks.{Slack}
 use Rattle.code.specs.Calls.{Vanishes}
 
@@ -166,10 +167,15 @@ module _ (a : Params) (ok : Valid a) (S : ℕ → Bool) (full : Reads a S) where
   pair-blocks x x′ v v′ codeword g g′ i p =
       let e = pair-unique x x′ v v′ codeword g g′ in ap₂ (λ (x v : List ℕ). block a x v i p) (e .0) (e .1)
 
--- R of r nodes reads that many
-pub from-reads : (a : Params) (from : ℕ) → Valid a → within (a .n) from ≡ true → size from ≡ a .r → Reads a (has from)
-from-reads a from ok hw hs = sym (within-size (a .n) from hw) ∙ hs ∙ sym (working-is a ok)
+-- a pair that gives the blocks of all nodes of R gives those of the nodes used
+pub gives-used : (a : Params) (from : ℕ) {x v codeword : List ℕ} → Gives a x v (has from) codeword → Gives a x v (used a from) codeword
+gives-used a from g =
+    record { pair = g .pair; equal = λ j p hj s hp. g .equal j p hj (lowest-passes (working a) (has from) (suc j) s) hp }
 
--- so do the first nodes
+-- The nodes used are that many: R has r, and q is never above r.
+pub from-reads : (a : Params) (from : ℕ) → Valid a → within (a .n) from ≡ true → size from ≡ a .r → Reads a (used a from)
+from-reads a from ok hw hs = omega (arith, count-lowest (working a) (has from) (a .n), within-size (a .n) from hw, hs, working-le-r a ok)
+
+-- so are the first nodes
 pub first-reads : (a : Params) → Valid a → Reads a (upTo (working a))
 first-reads a ok = count-range (working a) (a .n) (working-le a ok)

@@ -1,5 +1,5 @@
--- "The calls" (document 01): for each, what its answer and every byte of its buffers are, served and refused. Results are said by their meaning, through
--- the one pair with the given blocks; that there is exactly one is proved in proofs/. Assumes nothing.
+-- "The calls" (document 01, with what document 02 changes): for each, what its answer and every byte of its buffers are, served and refused. Results are said
+-- by their meaning, through the one pair with the given blocks; that there is exactly one is proved in proofs/. Assumes nothing.
 use mathlib.Core.Path.{_≡_}
 use mathlib.Core.Bool.{Bool, true, false, _||_}
 use mathlib.Core.List.{List, []}
@@ -13,7 +13,7 @@ use Rattle.params.specs.Params.{slackParts, working, reshaped}
 use Rattle.gates.specs.Gates.{encodeGate, decodeGate, deltaGate, updateGate, repairGate, checkGate, viewGate, reconfigureGate}
 use Rattle.params.specs.declared.Params.{Params}
 use Rattle.params.specs.declared.Shape.{Shape}
-use Rattle.code.specs.Code.{Parts, block, Pair, Gives, upTo}
+use Rattle.code.specs.Code.{Parts, block, Pair, Gives, used, upTo}
 use Rattle.code.specs.declared.Verdict.{Verdict}
 use Rattle.code.specs.declared.Verdict.the-variants.{Refused, Agrees, Differs}
 
@@ -32,12 +32,12 @@ pub record Encoded (a : Params) (x v new : List ℕ) : Type 0 where
 abbrev pub EncodePost : Params → List ℕ → List ℕ → List ℕ → ℕ → List ℕ → Type 0
 EncodePost a x v old answer new = Post (encodeGate a (length x) (length v) (length old)) answer (Encoded a x v new) (new ≡ old)
 
--- ---- "Reading: record and a choice R of r traps. Out: the message of the one (message, slack) pair that gives R's blocks. It is defined for whichever
--- bytes R holds."
+-- ---- "Reading: record and a choice R of r traps. Out: the message of the one (message, slack) pair that gives R's blocks", those of R's q lowest nodes. "It
+-- is defined for whichever bytes R holds."
 
 pub record Decoded (a : Params) (codeword : List ℕ) (from : ℕ) (out : List ℕ) : Type 0 where
   pub slack : List ℕ
-  pub gives : Gives a out slack (has from) codeword
+  pub gives : Gives a out slack (used a from) codeword
 
 abbrev pub DecodePost : Params → List ℕ → ℕ → List ℕ → ℕ → List ℕ → Type 0
 DecodePost a codeword from old answer out =
@@ -74,12 +74,13 @@ pub record Updated (a : Params) (old d : List ℕ) (to : ℕ) (new : List ℕ) :
 abbrev pub UpdatePost : Params → List ℕ → ℕ → List ℕ → ℕ → List ℕ → Type 0
 UpdatePost a d to old answer new = Post (updateGate a (length old) (length d) to) answer (Updated a old d to new) (new ≡ old)
 
--- ---- "Rebuild: R and a lost choice L. L's blocks become those of R's pair. L may be empty, and then nothing is written."
+-- ---- "Rebuild: R and a lost choice L. L's blocks become those of R's pair", which its q lowest nodes give. "L may be empty, and
+-- then nothing is written."
 
 pub record Repaired (a : Params) (old : List ℕ) (from lost : ℕ) (new : List ℕ) : Type 0 where
   pub message : List ℕ
   pub slack : List ℕ
-  pub gives : Gives a message slack (has from) old
+  pub gives : Gives a message slack (used a from) old
   pub length-is : length new ≡ a .n * a .b
   pub rebuilt : (j p : ℕ) → j < a .n → has lost (suc j) ≡ true → p < a .b → cell (a .b) new j p ≡ block a message slack (suc j) p
   pub kept : (j p : ℕ) → j < a .n → has lost (suc j) ≡ false → p < a .b → cell (a .b) new j p ≡ cell (a .b) old j p
@@ -95,11 +96,12 @@ RepairPost a from lost old answer new =
 abbrev pub writes : Params → ℕ → ℕ → Bool
 writes a to i = has to i || ltb (a .n) i
 
--- "R's old pair gives a value z_i for each trap i up to n'. The new pair has the new message and agrees with z_i at every trap of 1..n' outside W'."
+-- "R's old pair", which its q lowest nodes give, "gives a value z_i for each trap i up to n'. The new pair has the new message and agrees with z_i at every
+-- trap of 1..n' outside W'."
 pub record Reconfigured (a : Params) (t : Shape) (old : List ℕ) (from to : ℕ) (x new : List ℕ) : Type 0 where
   pub oldMessage : List ℕ
   pub oldSlack : List ℕ
-  pub gives : Gives a oldMessage oldSlack (has from) old
+  pub gives : Gives a oldMessage oldSlack (used a from) old
   pub slack : List ℕ
   pub pair : Pair (reshaped a t) x slack
   pub agrees : (j p : ℕ) → j < t .n → has to (suc j) ≡ false → p < a .b
@@ -112,8 +114,8 @@ abbrev pub ReconfigurePost : Params → Shape → List ℕ → ℕ → ℕ → L
 ReconfigurePost a t old from to x buffer answer new =
     Post (reconfigureGate a t (length old) (length buffer) (length x) from to) answer (Reconfigured a t old from to x new) (new ≡ buffer)
 
--- ---- "Check: takes the record. Besides its gate number it gives a trap number: 0 if all n blocks come from the pair of traps 1..r, else the lowest trap
--- whose block differs from that pair's."
+-- ---- "Check: takes the record. Besides its gate number it gives a trap number: 0 if all n blocks come from the pair of traps" 1..q (document 02, 2026-01:
+-- "check uses traps 1..q"), "else the lowest trap whose block differs from that pair's."
 
 -- The verdict's number in document 01 ..
 abbrev pub number : Verdict → ℕ

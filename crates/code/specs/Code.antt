@@ -8,7 +8,8 @@ use lib.ListN.{length}
 use Rattle.base.specs.Seq.{cell}
 use Rattle.field.specs.Field.{Bytes}
 use Rattle.interpolation.specs.Polynomial.{evaluate}
-use Rattle.params.specs.Params.{slackParts}
+use Rattle.params.specs.Nodes.{has, lowest}
+use Rattle.params.specs.Params.{slackParts, working}
 use Rattle.params.specs.declared.Params.{Params}
 
 -- "Only the point rule turns the one into the other: the point of trap i is the byte i, written c_i."
@@ -36,6 +37,10 @@ pub record Pair (a : Params) (x v : List ℕ) : Type 0 where
 pub record Gives (a : Params) (x v : List ℕ) (S : ℕ → Bool) (codeword : List ℕ) : Type 0 where
   pub pair : Pair a x v
   pub equal : (j p : ℕ) → j < a .n → S (suc j) ≡ true → p < a .b → block a x v (suc j) p ≡ cell (a .b) codeword j p
+
+-- "A reading, rebuild or rearrangement given R uses R's q lowest traps" (document 02, 2026-01).
+abbrev pub used : Params → ℕ → ℕ → Bool
+used a from = lowest (working a) (has from)
 
 -- The nodes 1..q.
 abbrev pub upTo : ℕ → ℕ → Bool

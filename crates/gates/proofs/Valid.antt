@@ -21,10 +21,6 @@ use Rattle.base.proofs.Questions.{YesAnd, all-yes, first-zero, among, both-know
 
 -- ---- what valid parameters give
 
-pub slack-is : (a : Params) → Valid a → slackParts a ≡ a .r - a .k
-unfolding slackParts
-slack-is a v = omega arith
-
 pub slack-add : (a : Params) → Valid a → slackParts a + a .w ≡ a .n
 unfolding slackParts
 slack-add a v = omega arith
@@ -33,9 +29,10 @@ pub slack-le : (a : Params) → Valid a → slackParts a ≤ a .n
 unfolding slackParts
 slack-le a v = omega arith
 
-pub working-is : (a : Params) → Valid a → working a ≡ a .r
+-- "never above r"
+pub working-le-r : (a : Params) → Valid a → working a ≤ a .r
 unfolding working
-working-is a v = omega arith
+working-le-r a v = omega arith
 
 pub working-le : (a : Params) → Valid a → working a ≤ a .n
 unfolding working
@@ -50,7 +47,7 @@ shape-known more t y =
     let k = both-known (leb 1 (t .k) && leb (t .k) (t .r)) (leb (t .k) (t .w)) (y .1 .1 .0) in
     let kr = both-le 1 (t .k) (t .k) (t .r) (k .0) in
     let kw = leb-true (t .k) (t .w) (k .1) in
-    let sum = eqb-true (t .r + t .w) (t .k + t .n) (y .1 .1 .1 .0) in (
+    let sum = leb-true (t .k + t .n) (t .r + t .w) (y .1 .1 .1 .0) in (
       record {
         n-low = n .0;
         n-high = n .1;
@@ -69,7 +66,7 @@ shape-yes more t v y = (
   ap₂ _&&_ (le-leb _ _ (v .n-low)) (le-leb _ _ (v .n-high)),
   (
     ap₂ _&&_ (le-leb _ _ (v .r-le-n)) (le-leb _ _ (v .w-le-n)),
-    (ap₂ _&&_ (ap₂ _&&_ (le-leb _ _ (v .k-low)) (le-leb _ _ (v .k-le-r))) (le-leb _ _ (v .k-le-w)), (eq-eqb _ _ (v .balance), y)),
+    (ap₂ _&&_ (ap₂ _&&_ (le-leb _ _ (v .k-low)) (le-leb _ _ (v .k-le-r))) (le-leb _ _ (v .k-le-w)), (le-leb _ _ (v .balance), y)),
   ),
 )
 

@@ -10,14 +10,14 @@ use Rattle.params.specs.Params.{slackParts, shapeOf}
 use Rattle.params.specs.declared.Params.{Params}
 use Rattle.params.specs.declared.Shape.{Shape}
 
--- "Is n from 1 to 32? No: 1. Are r and w at most n? No: 2. Is k at least 1, at most r and at most w? No: 3. Is r + w = k + n? No: 4."
--- "For the new arrangement, the first four again? No: 11, 12, 13, 14": the same with 10 more.
+-- "Is n from 1 to 32? No: 1. Are r and w at most n? No: 2. Is k at least 1, at most r and at most w? No: 3." "Question 4 becomes: is r + w at least k + n? Answer
+-- 14 changes alike" (document 02, 2026-01). "For the new arrangement, the first four again? No: 11, 12, 13, 14": the same with 10 more.
 abbrev pub shapeAsked : ℕ → Shape → List Question
 shapeAsked more t =
     ask (leb 1 (t .n) && leb (t .n) 32) (more + 1) ∷
     ask (leb (t .r) (t .n) && leb (t .w) (t .n)) (more + 2) ∷
     ask ((leb 1 (t .k) && leb (t .k) (t .r)) && leb (t .k) (t .w)) (more + 3) ∷
-    ask (eqb (t .r + t .w) (t .k + t .n)) (more + 4) ∷ []
+    ask (leb (t .k + t .n) (t .r + t .w)) (more + 4) ∷ []
 
 -- "Is B from 1 to 1,024? No: 5."
 abbrev pub blockAsked : Params → Question

@@ -28,7 +28,7 @@ fn params_gate(a: Params) -> u32
     if (a.k < 1) | (a.r < a.k) | (a.w < a.k) {
         return 3;
     }
-    if a.r + a.w != a.k + a.n {
+    if a.r + a.w < a.k + a.n {
         return 4;
     }
     if (a.b < 1) | (1024 < a.b) {

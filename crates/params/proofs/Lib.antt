@@ -2,3 +2,4 @@ pub mod Sets
 mod Words
 pub mod Placing
 pub mod Outside
+pub mod Lowest

@@ -40,6 +40,11 @@ unfoldable pub nodes : (ℕ → Bool) → ℕ → List ℕ
 nodes f zero = []
 nodes f (suc n) = nodes f n ++ only (f (suc n)) (suc n)
 
+-- "R's q lowest traps" (document 02, 2026-01), over a test: a node is one of them if it passes, and fewer than q nodes below it do.
+unfoldable pub lowest : ℕ → (ℕ → Bool) → ℕ → Bool
+lowest q f zero = false
+lowest q f (suc j) = f (suc j) && ltb (count f j) q
+
 -- The set's nodes in rising order.
 abbrev pub listed : ℕ → List ℕ
 listed s = nodes (has s) 32

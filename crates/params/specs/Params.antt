@@ -1,13 +1,13 @@
--- Code parameters (document 01, "The arrangement and the record"). Assumes nothing.
+-- Code parameters (document 01, "The arrangement and the record"; document 02, 2026-01). Assumes nothing.
 use Prim.Native.Nat.{ℕ, _+_, _-_}
 use Rattle.params.specs.declared.Params.{Params}
 use Rattle.params.specs.declared.Shape.{Shape}
 
--- "The slack has l = r − k = n − w parts."
+-- "The slack is now l = n − w parts, no longer r − k" (document 02, 2026-01).
 unfoldable pub slackParts : Params → ℕ
 slackParts a = a .n - a .w
 
--- The working number: how many nodes' blocks determine message and slack. It is r (gates/proofs/Valid.antt).
+-- "The working number is q = k + l, never above r" (gates/proofs/Valid.antt): so many nodes' blocks determine message and slack.
 unfoldable pub working : Params → ℕ
 unfolding slackParts
 working a = a .k + slackParts a

@@ -5,7 +5,7 @@ ghost use mathlib.Core.Path.{_≡_};
 ghost use mathlib.Core.Bool.{_&&_};
 ghost use Prim.Native.Nat.{ℕ};
 ghost use lib.Dec.{leb};
-ghost use Rattle.params.specs.Nodes.{has, size, within, disjoint, outside, Listing};
+ghost use Rattle.params.specs.Nodes.{has, size, within, disjoint, outside, lowest, Listing};
 
 impl NodeSet {
     pub fn size(self) -> usize
@@ -51,6 +51,25 @@ impl NodeSet {
             return NodeSet(!self.0);
         }
         NodeSet(!self.0 & ((1u32 << n) - 1))
+    }
+
+    // The q lowest nodes of the set, or all where it has no more. Each turn of the loop passes one of them.
+    pub fn lowest(self, q: usize) -> NodeSet
+        ensures { λ r. ⌜ ((i : ℕ) → has (r .0) i ≡ lowest q (has (self .0)) i) ⌝ }
+    {
+        if self.size() <= q {
+            return self;
+        }
+        let mut at: usize = 0;
+        let mut passed: u32 = 0;
+        let mut rest = self.0;
+        while at < q {
+            let zeros = u32::trailing_zeros(rest);
+            passed = passed + zeros + 1;
+            rest = (rest >> zeros) / 2;
+            at += 1;
+        }
+        NodeSet(self.0 & ((1u32 << passed) - 1))
     }
 
     // The nodes in rising order go to the front of out, which has 32 places; what stands behind them is as it was. The answer is how many they are. Where out has not

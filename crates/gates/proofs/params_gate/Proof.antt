@@ -3,13 +3,13 @@ use mathlib.Core.Path.{_≡_, sym, _∙_}
 use mathlib.Core.Bool.{true, _&&_}
 use native.Mathlib.Nat.{le-trans}
 use lib.Dec.{leb}
-use borrow.Author.Tests.{not-true, not-false, eq-eqb, ne-eqb}
+use borrow.Author.Tests.{not-true, not-false, le-leb, lt-leb}
 use Rattle.base.proofs.Questions.{nay, yea, over, first, both-known, both-le}
 use Rattle.gates.proofs.Answers.{out-of-two, out-of-three, sum-fits}
 use Rattle.gates.proofs.params_gate.Statement.{statement}
 use Rattle.gates.proofs.params_gate.Tie as tie
 
--- the answers yes to the questions 1, 2, 3 and 5
+-- the answers yes to the questions 1, 2 and 3
 one : (c : tie.Else1) → let a = c .before .before .before .args .a in (leb 1 (a .n) && leb (a .n) 32) ≡ true
 one c = let a = c .before .before .before .args .a in not-false _ (sym (out-of-two (a .n) 1 32 (a .n)) ∙ c .if1 .left)
 
@@ -67,7 +67,7 @@ returns-4 : tie.Need-returns-4
 returns-4 c =
     let g = c .before .before .before in
     let f = g .before .before .before .before in
-    first _ (yea (one (f .before .before .before)) (yea (two f) (yea (three g) (nay (ne-eqb _ _ (c .if4 .taken))))))
+    first _ (yea (one (f .before .before .before)) (yea (two f) (yea (three g) (nay (lt-leb _ _ (c .if4 .taken))))))
 
 returns-5 : tie.Need-returns-5
 returns-5 c =
@@ -78,7 +78,7 @@ returns-5 c =
     let b = e .before .before .before .args .a .b in
     first _
     (yea (one e)
-    (yea (two f) (yea (three g) (yea (eq-eqb _ _ (h .if4 .left)) (nay (not-true _ (sym (out-of-two b 1 1024 b) ∙ c .if5 .taken)))))))
+    (yea (two f) (yea (three g) (yea (le-leb _ _ (h .if4 .left)) (nay (not-true _ (sym (out-of-two b 1 1024 b) ∙ c .if5 .taken)))))))
 
 returns-6 : tie.Need-returns-6
 returns-6 c =
@@ -89,7 +89,7 @@ returns-6 c =
     let b = e .before .before .before .args .a .b in
     first _
     (yea (one e)
-    (yea (two f) (yea (three g) (yea (eq-eqb _ _ (h .if4 .left)) (yea (not-false _ (sym (out-of-two b 1 1024 b) ∙ c .if5 .left)) over)))))
+    (yea (two f) (yea (three g) (yea (le-leb _ _ (h .if4 .left)) (yea (not-false _ (sym (out-of-two b 1 1024 b) ∙ c .if5 .left)) over)))))
 
 pub params-gate-spec : {M : Type 1} → statement M
 params-gate-spec = tie.close (tie.spec returns returns-2 returns-3 add-if4 add-if4-2 returns-4 returns-5 returns-6)

@@ -59,7 +59,7 @@ numbered c =
     (leb 1 (t .n) && leb (t .n) 32)
     (leb (t .r) (t .n) && leb (t .w) (t .n))
     ((leb 1 (t .k) && leb (t .k) (t .r)) && leb (t .k) (t .w))
-    (eqb (t .r + t .w) (t .k + t .n))
+    (leb (t .k + t .n) (t .r + t .w))
     (leb 1 (s .a .b) && leb (s .a .b) 1024)
     (ap₂ _&&_ (le-leb _ _ (valid (c .before) .b-low)) (le-leb _ _ (valid (c .before) .b-high)))
     (c .before .before .params-gate2 .ensures)

@@ -21,7 +21,7 @@ loop-holds : tie.Need-loop-holds Inv-loop μ-loop
 loop-holds c = walked-none (c .before .args .self .0) _ (omega arith) (c .if1 .left)
 
 next : (c : tie.In-loop Inv-loop μ-loop) → c .before .loop .passed + trailingZeros 32 (c .before .loop .rest) < 32
-next c = next-lt (c .before .loop .inv) (c .loop-test .taken)
+next c = next-lt (c .before .loop .inv .walk) (c .loop-test .taken)
 
 add-passed : tie.Need-add-passed Inv-loop μ-loop
 add-passed c = omega (arith, next c)
@@ -36,10 +36,10 @@ cast-out : tie.Need-cast-out Inv-loop μ-loop
 cast-out c = omega (arith, next c)
 
 slice-write-out : tie.Need-slice-write-out Inv-loop μ-loop
-slice-write-out c = omega (arith, at-lt (c .before .loop .inv) (c .loop-test .taken), walked-length (c .before .loop .inv))
+slice-write-out c = omega (arith, at-lt (c .before .loop .inv .walk) (c .loop-test .taken), walked-length (c .before .loop .inv))
 
 add-at : tie.Need-add-at Inv-loop μ-loop
-add-at c = omega (arith, at-lt (c .before .loop .inv) (c .loop-test .taken))
+add-at c = omega (arith, at-lt (c .before .loop .inv .walk) (c .loop-test .taken))
 
 loop-less : tie.Need-loop-less Inv-loop μ-loop
 loop-less c = let rest = c .before .loop .rest in omega (arith, shr-le rest (trailingZeros 32 rest))
