@@ -4,3 +4,4 @@ pub mod Additivity
 pub mod Theorems
 pub mod Determined
 pub mod Posts
+pub mod Used

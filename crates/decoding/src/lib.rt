@@ -14,7 +14,7 @@ ghost use Rattle.params.specs.Nodes.{size};
 ghost use Rattle.code.specs.Calls.{DecodePost};
 ghost use Rattle.decoding.specs.Cores.{Decodable, Recovered};
 
-// Reads the message from the blocks of the nodes in from, whichever bytes they hold. A refusal leaves out as it was.
+// Reads the message from the blocks of from's q lowest nodes, q the working number, whichever bytes they and the others hold. A refusal leaves out as it was.
 pub fn decode(a: Params, codeword: &[u8], from: NodeSet, out: &mut [u8]) -> u32
     ensures { λ r. ⌜ DecodePost a (now (codeword .entry)) (from .0) (now (out .entry)) r (now (out .exit)) ⌝ }
 {
@@ -22,7 +22,7 @@ pub fn decode(a: Params, codeword: &[u8], from: NodeSet, out: &mut [u8]) -> u32
     if refusal != 0 {
         return refusal;
     }
-    decode_parts(a, codeword, from, out);
+    decode_parts(a, codeword, from.lowest(a.working()), out);
     0
 }
 

@@ -18,7 +18,7 @@ use Rattle.gates.specs.Gates.{encodeGate, decodeGate, deltaGate, updateGate, re
 use Rattle.params.specs.declared.Params.{Params}
 use Rattle.params.specs.declared.Shape.{Shape}
 use Rattle.params.proofs.Sets.{has-le}
-use Rattle.code.specs.Code.{Parts, block, Gives, upTo}
+use Rattle.code.specs.Code.{Parts, block, Gives, used, upTo}
 use Rattle.code.specs.Calls.{Post, EncodePost, DecodePost, Vanishes, DeltaPost, UpdatePost, RepairPost, writes, ReconfigurePost, CheckPost}
 use Rattle.code.specs.declared.Verdict.the-variants.{Agrees}
 
@@ -120,13 +120,13 @@ module _ (a : Params) (x v new : List ℕ) where
 
 module _ (a : Params) (codeword : List ℕ) (from : ℕ) (out slack : List ℕ) where
   abbrev pub decode? : List Bool
-  decode? = eqb 0 (decodeGate a (length codeword) (length out) from) ∷ conj (gives? a out slack (has from) codeword) ∷ []
+  decode? = eqb 0 (decodeGate a (length codeword) (length out) from) ∷ conj (gives? a out slack (used a from) codeword) ∷ []
 
   pub decode-by : T (conj decode?) → (old : List ℕ) → length old ≡ length out → DecodePost a codeword from old 0 out
   decode-by h old e =
       let t = each decode? h in
       accepted (λ n. decodeGate a (length codeword) n from) old out e (t .0)
-      (record { slack = slack; gives = gives a out slack (has from) codeword (t .1 .0) })
+      (record { slack = slack; gives = gives a out slack (used a from) codeword (t .1 .0) })
 
 module _ (a : Params) (d : List ℕ) (to : ℕ) (out slack : List ℕ) where
   abbrev pub delta? : List Bool
@@ -167,7 +167,7 @@ module _ (a : Params) (d : List ℕ) (to : ℕ) (old new slack : List ℕ) where
 module _ (a : Params) (from lost : ℕ) (old new message slack : List ℕ) where
   abbrev pub repair? : List Bool
   repair? =
-      eqb 0 (repairGate a (length old) from lost) ∷ conj (gives? a message slack (has from) old) ∷ eqb (length new) (a .n * a .b) ∷
+      eqb 0 (repairGate a (length old) from lost) ∷ conj (gives? a message slack (used a from) old) ∷ eqb (length new) (a .n * a .b) ∷
       same? (a .n) (a .b) (has lost) (cell (a .b) new) (λ j. block a message slack (suc j)) ∷
       same? (a .n) (a .b) (λ i. not (has lost i)) (cell (a .b) new) (cell (a .b) old) ∷ []
 
@@ -178,7 +178,7 @@ module _ (a : Params) (from lost : ℕ) (old new message slack : List ℕ) where
       (record {
         message = message;
         slack = slack;
-        gives = gives a message slack (has from) old (t .1 .0);
+        gives = gives a message slack (used a from) old (t .1 .0);
         length-is = eqb→eq _ _ (t .1 .1 .0);
         rebuilt = same (a .n) (a .b) (has lost) (cell (a .b) new) (λ j. block a message slack (suc j)) (t .1 .1 .1 .0);
         kept = other (a .n) (a .b) (has lost) (cell (a .b) new) (cell (a .b) old) (t .1 .1 .1 .1 .0);
@@ -187,7 +187,7 @@ module _ (a : Params) (from lost : ℕ) (old new message slack : List ℕ) where
 module _ (a : Params) (t : Shape) (old : List ℕ) (from to : ℕ) (x new oldMessage oldSlack slack : List ℕ) where
   abbrev pub reconfigure? : List Bool
   reconfigure? =
-      eqb 0 (reconfigureGate a t (length old) (length new) (length x) from to) ∷ conj (gives? a oldMessage oldSlack (has from) old) ∷
+      eqb 0 (reconfigureGate a t (length old) (length new) (length x) from to) ∷ conj (gives? a oldMessage oldSlack (used a from) old) ∷
       parts? (a .b) (t .k) x ∷ parts? (a .b) (slackParts (reshaped a t)) slack ∷
       same? (t .n) (a .b) (λ i. not (has to i)) (λ j. block (reshaped a t) x slack (suc j)) (λ j. block a oldMessage oldSlack (suc j)) ∷
       eqb (length new) (t .n * a .b) ∷ same? (t .n) (a .b) (writes a to) (cell (a .b) new) (λ j. block (reshaped a t) x slack (suc j)) ∷
@@ -200,7 +200,7 @@ module _ (a : Params) (t : Shape) (old : List ℕ) (from to : ℕ) (x new oldMes
       (record {
         oldMessage = oldMessage;
         oldSlack = oldSlack;
-        gives = gives a oldMessage oldSlack (has from) old (q .1 .0);
+        gives = gives a oldMessage oldSlack (used a from) old (q .1 .0);
         slack = slack;
         pair = record { message = parts (a .b) (t .k) x (q .1 .1 .0); slack = parts (a .b) (slackParts (reshaped a t)) slack (q .1 .1 .1 .0) };
         agrees =

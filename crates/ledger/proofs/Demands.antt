@@ -19,11 +19,12 @@ use Rattle.params.specs.declared.Params.{Params}
 use Rattle.params.specs.declared.Shape.{Shape}
 use Rattle.gates.specs.Gates.{encodeGate, decodeGate, deltaGate, updateGate, repairGate, checkGate, viewGate, reconfigureGate}
 use Rattle.code.specs.declared.Verdict.{Verdict}
-use Rattle.code.specs.Code.{Gives}
+use Rattle.code.specs.Code.{Gives, used}
 use Rattle.code.specs.Calls.{Post, EncodePost, DecodePost, DeltaPost, UpdatePost, RepairPost, ReconfigurePost, CheckPost, ViewPost, number}
 use Rattle.gates.proofs.Valid.{encode-accepted, decode-accepted}
 use Rattle.code.proofs.Determined.{Met, Once, encode-met, encode-once, decode-met, decode-once, delta-met, delta-once, update-met, update-once, repair-met}
 use Rattle.code.proofs.Determined.{repair-once, reconfigure-met, reconfigure-once, check-met, check-once, view-met, view-once}
+use Rattle.code.proofs.Pairs.{gives-used}
 use Rattle.code.proofs.Theorems.{decode-encode}
 use Rattle.ledger.specs.Ledger.{Held, Machine, Event, History, Reading}
 use Rattle.ledger.proofs.Demand3 as D3
@@ -107,10 +108,10 @@ demand-2 =
       inverse = λ s m old. (invert-met s m old, invert-once s m old);
     }
 
--- From message to blocks, and from any r blocks back: an accepted reading through nodes that hold their blocks of an accepted set-up gives its message, whatever
--- the other nodes hold.
+-- From message to blocks, and from any r blocks back: an accepted reading through r nodes, the q lowest of which hold their blocks of an accepted set-up, gives
+-- its message, whatever the others hold, those of R too.
 abbrev pub SameAt : Params → ℕ → List ℕ → List ℕ → Type 0
-SameAt a from left codeword = (j p : ℕ) → j < a .n → has from (suc j) ≡ true → p < a .b → cell (a .b) left j p ≡ cell (a .b) codeword j p
+SameAt a from left codeword = (j p : ℕ) → j < a .n → used a from (suc j) ≡ true → p < a .b → cell (a .b) left j p ≡ cell (a .b) codeword j p
 
 pub demand-2-back : (a : Params) (message slack old codeword left buffer out : List ℕ) (from : ℕ) → Bytes message → Bytes slack
     → EncodePost a message slack old 0 codeword → SameAt a from left codeword → DecodePost a left from buffer 0 out → out ≡ message
@@ -131,11 +132,11 @@ demand-2-back a message slack old codeword left buffer out from hm hs set-up sam
 pub demand-3 : {events : List Event} {h : Held} {m : Machine} {out : List ℕ} → History events h m → Reading h m out → out ≡ m .ledger
 demand-3 = D3.reading-is-ledger
 
--- .. and the message of the one pair that gives the blocks read; ..
+-- .. and the message of the one pair that gives the blocks read, all r of them; ..
 pub demand-3-pair : {events : List Event} {h : Held} {m : Machine} {out : List ℕ} → History events h m → (rd : Reading h m out)
     → (v : List ℕ) × Gives (h .params) out v (has (rd .from)) (h .codeword)
     × ((x′ v′ : List ℕ) → Gives (h .params) x′ v′ (has (rd .from)) (h .codeword) → (x′ ≡ out) × (v′ ≡ v))
-demand-3-pair = D3.reading-is-the-pair's
+demand-3-pair {h = h} y rd = let one = D3.reading-is-the-pair's y rd in (one .0, one .1, λ x′ v′ g. one .2 x′ v′ (gives-used (h .params) (rd .from) g))
 
 -- .. and for every two such lists and readings, these are equal exactly when the ledgers are.
 pub demand-3-equal : {events events′ : List Event} {h h′ : Held} {m m′ : Machine} {out out′ : List ℕ}

@@ -1,6 +1,6 @@
 -- A list with every kind of event, accepted and refused, shown to be a history by computing its posts; and the reading after it. Assumes nothing.
 use mathlib.Core.Path.{_≡_, refl}
-use mathlib.Core.Bool.{not, _&&_, _||_}
+use mathlib.Core.Bool.{Bool, not, _&&_, _||_}
 use mathlib.Core.List.{List, [], _∷_}
 use Prim.Native.Nat.{ℕ, suc}
 use native.Mathlib.Omega.{arith}
@@ -11,7 +11,7 @@ use Rattle.base.specs.Seq.{cell, blocks, tabulate}
 use Rattle.field.specs.Field.{add, plus, mul, pow}
 use Rattle.field.specs.FiniteSum.{sum}
 use Rattle.interpolation.specs.Polynomial.{evaluate}
-use Rattle.params.specs.Nodes.{has, size, within, disjoint, count}
+use Rattle.params.specs.Nodes.{has, size, within, disjoint, count, lowest}
 use Rattle.params.specs.Params.{slackParts, working}
 use Rattle.gates.specs.Gates.{encodeGate, decodeGate, deltaGate, updateGate, repairGate, reconfigureGate, checkGate, viewGate, damageGate}
 use Rattle.code.specs.Code.{point, block}
@@ -23,11 +23,15 @@ use Rattle.ledger.specs.Ledger.{damaged, Run, done, more, History, Readi
 use Rattle.ledger.proofs.Computed.{bytes, encode-by, decode-by, delta-by, update-by, repair-by, reconfigure-by, check-by, undamaged-by}
 use Rattle.ledger.proofs.Invariant.{given-in-force}
 use Rattle.ledger.proofs.Demand3.{reading-is-ledger}
-use Rattle.ledger.proofs.Figures.{small}
+use Rattle.ledger.proofs.Figures.{small, spare}
 
--- a call that is given the parameters and the record in force
+-- a call that is given the parameters and the record in force; first these, ..
 abbrev on-held : Call → Event
 on-held = call (record { params = small; codeword = held })
+
+-- .. in the end those with slack to spare
+abbrev on-spare : Call → Event
+on-spare = call (record { params = spare; codeword = held })
 
 -- ---- accepted, from 06 0A 0C
 
@@ -62,9 +66,9 @@ bad-change = on-held (update (0x05 ∷ []) 0b001)
 abbrev bad-rebuild : Event
 bad-rebuild = on-held (repair 0b011 0b001)
 
--- to (1,2,2,2), where r + w is not k + n: 14
+-- to (1,1,1,2), where r + w is below k + n: 14
 abbrev bad-rearrangement : Event
-bad-rearrangement = on-held (reconfigure (record { k = 1; r = 2; w = 2; n = 2 }) (0x00 ∷ 0x00 ∷ []) (0x09 ∷ []) 0b011 0b011)
+bad-rearrangement = on-held (reconfigure (record { k = 1; r = 1; w = 1; n = 2 }) (0x00 ∷ 0x00 ∷ []) (0x09 ∷ []) 0b011 0b011)
 
 -- node 4 is read: 7
 abbrev bad-reading : Event
@@ -111,23 +115,54 @@ rearrangement = on-held (reconfigure (record { k = 1; r = 2; w = 2; n = 3 }) (0x
 abbrev widening : Event
 widening = on-held (reconfigure (record { k = 2; r = 2; w = 3; n = 3 }) (0x00 ∷ 0x00 ∷ 0x00 ∷ []) (0x01 ∷ 0x01 ∷ []) 0b110 0b111)
 
+-- ---- accepted, with slack to spare
+
+-- all nodes are written anew for (1,2,3,3), which reads two nodes and uses one: 07 0E 09
+abbrev sparing : Event
+sparing =
+    call (record { params = record { k = 2; r = 2; w = 3; n = 3; b = 1 }; codeword = held })
+    (reconfigure (record { k = 1; r = 2; w = 3; n = 3 }) (0x00 ∷ 0x00 ∷ 0x00 ∷ []) (0x07 ∷ []) 0b011 0b111)
+
+-- node 3 is damaged, 07 0E FF, and rebuilt from nodes 1 and 2, of which 1 is used: 07 0E 09
+abbrev third-blow : Event
+third-blow = damage 3 (0xff ∷ [])
+
+abbrev spare-rebuild : Event
+spare-rebuild = on-spare (repair 0b011 0b100)
+
+-- node 2 is damaged: 07 FF 09; nodes 2 and 3 then read F1, which no ledger settles
+abbrev fourth-blow : Event
+fourth-blow = damage 2 (0xff ∷ [])
+
+abbrev spare-reading : Event
+spare-reading = on-spare (decode (0x00 ∷ []) 0b110)
+
+-- to (1,3,2,3), which reads all three nodes and uses two: node 1's block is copied, 07 02 05, and the message is 05
+abbrev spare-rearrangement : Event
+spare-rearrangement = on-spare (reconfigure (record { k = 1; r = 3; w = 2; n = 3 }) (0x00 ∷ 0x00 ∷ 0x00 ∷ []) (0x05 ∷ []) 0b101 0b110)
+
 abbrev pub events : List Event
 events =
     viewing ∷ change ∷ reading ∷ difference ∷ checking ∷
     bad-set-up ∷ bad-change ∷ bad-rebuild ∷ bad-rearrangement ∷ bad-reading ∷ bad-difference ∷ bad-check ∷ bad-view ∷ bad-blow ∷
-    blow ∷ change-over ∷ rebuild ∷ second-blow ∷ rearrangement ∷ widening ∷ []
+    blow ∷ change-over ∷ rebuild ∷ second-blow ∷ rearrangement ∷ widening ∷
+    sparing ∷ third-blow ∷ spare-rebuild ∷ fourth-blow ∷ spare-reading ∷ spare-rearrangement ∷ []
 
 -- what the list leaves, and what the machine then holds
 abbrev pub left : Held
-left = record { params = record { k = 2; r = 2; w = 3; n = 3; b = 1 }; codeword = 0x00 ∷ 0x06 ∷ 0x06 ∷ [] }
+left = record { params = record { k = 1; r = 3; w = 2; n = 3; b = 1 }; codeword = 0x07 ∷ 0x02 ∷ 0x05 ∷ [] }
+
+-- (a rearrangement's part in the set: three nodes before and after it)
+abbrev rewrites : ℕ → Bool → ℕ → Bool
+rewrites to before i = ((before && not (has to i)) && leb i 3) && leb i 3
 
 abbrev pub machine : Machine
 machine =
     record {
       params = left .params;
-      ledger = 0x01 ∷ 0x01 ∷ [];
+      ledger = 0x05 ∷ [];
       damaged = λ i.
-          ((((((((eqb i 1 && not (has 0b001 i)) || eqb i 1) && not (has 0b110 i)) && leb i 3) && leb i 3) && not (has 0b111 i)) && leb i 3) && leb i 3);
+          rewrites 0b110 ((rewrites 0b111 (rewrites 0b111 (rewrites 0b110 ((eqb i 1 && not (has 0b001 i)) || eqb i 1) i) i) i || eqb i 3) && not (has 0b100 i) || eqb i 2) i;
     }
 
 -- an answer other than 0
@@ -139,7 +174,7 @@ refused q e = record { number = e; served = λ z. absurd (never q z); refused = 
 
 run : Run (begun small (0x06 ∷ 0x0a ∷ 0x0c ∷ [])) (opened small (0x07 ∷ [])) events left machine
 unfolding encodeGate decodeGate deltaGate updateGate repairGate reconfigureGate checkGate viewGate damageGate firstNo slackParts working
-    has size ones within disjoint count cell blocks tabulate block point evaluate sum add mul pow damagedWord plus
+    has size ones within disjoint count lowest cell blocks tabulate block point evaluate sum add mul pow damagedWord plus
 run =
     more {e = viewing} tt (λ _. given-in-force _) (viewed (0x0a ∷ []) refl (record { number = refl; served = λ _. refl; refused = λ ne. absurd (ne refl) })) (
     more {e = change} (tt, bytes (0x05 ∷ []) tt, omega arith) (λ _. given-in-force _)
@@ -171,7 +206,18 @@ run =
     (reconfigured 0 (0xaa ∷ 0x2e ∷ 0x28 ∷ []) (reconfigure-by _ _ _ _ _ _ _ (0x07 ∷ []) (0x01 ∷ []) (0x0f ∷ []) tt _ refl)) (
     more {e = widening} (tt, bytes (0x00 ∷ 0x00 ∷ 0x00 ∷ []) tt, bytes (0x01 ∷ 0x01 ∷ []) tt, omega arith, omega arith)
     (λ _. (given-in-force _, undamaged-by _ 0b110 (omega arith) tt))
-    (reconfigured 0 (0x00 ∷ 0x06 ∷ 0x06 ∷ []) (reconfigure-by _ _ _ _ _ _ _ (0x09 ∷ []) (0x0f ∷ []) [] tt _ refl)) done)))))))))))))))))))
+    (reconfigured 0 (0x00 ∷ 0x06 ∷ 0x06 ∷ []) (reconfigure-by _ _ _ _ _ _ _ (0x09 ∷ []) (0x0f ∷ []) [] tt _ refl)) (
+    more {e = sparing} (tt, bytes (0x00 ∷ 0x00 ∷ 0x00 ∷ []) tt, bytes (0x07 ∷ []) tt, omega arith, omega arith)
+    (λ _. (given-in-force _, undamaged-by _ 0b011 (omega arith) tt))
+    (reconfigured 0 (0x07 ∷ 0x0e ∷ 0x09 ∷ []) (reconfigure-by _ _ _ _ _ _ _ (0x01 ∷ 0x01 ∷ []) [] [] tt _ refl)) (
+    more {e = third-blow} (bytes (0xff ∷ []) tt) (λ _. tt) (damaged refl) (
+    more {e = spare-rebuild} (tt, omega arith, omega arith) (λ _. (given-in-force _, undamaged-by _ 0b011 (omega arith) tt))
+    (repaired 0 (0x07 ∷ 0x0e ∷ 0x09 ∷ []) (repair-by _ _ _ _ _ (0x07 ∷ []) [] tt)) (
+    more {e = fourth-blow} (bytes (0xff ∷ []) tt) (λ _. tt) (damaged refl) (
+    more {e = spare-reading} (tt, bytes (0x00 ∷ []) tt, omega arith) (λ _. given-in-force _) (decoded 0 (0xf1 ∷ []) (decode-by _ _ _ _ [] tt _ refl)) (
+    more {e = spare-rearrangement} (tt, bytes (0x00 ∷ 0x00 ∷ 0x00 ∷ []) tt, bytes (0x05 ∷ []) tt, omega arith, omega arith)
+    (λ _. (given-in-force _, undamaged-by _ 0b101 (omega arith) tt))
+    (reconfigured 0 (0x07 ∷ 0x02 ∷ 0x05 ∷ []) (reconfigure-by _ _ _ _ _ _ _ (0x07 ∷ []) [] (0x02 ∷ []) tt _ refl)) done)))))))))))))))))))))))))
 
 -- The list is a history, ..
 pub example : History events left machine
@@ -188,17 +234,17 @@ example =
       run = run;
     }
 
--- .. after which nodes 1 and 2 read 01 01, by what decode means, ..
-pub example-reading : Reading left machine (0x01 ∷ 0x01 ∷ [])
-unfolding decodeGate firstNo slackParts has size ones within cell block point evaluate sum add mul pow
+-- .. after which the nodes read 05, by what decode means, ..
+pub example-reading : Reading left machine (0x05 ∷ [])
+unfolding decodeGate firstNo slackParts working has size ones within count lowest cell block point evaluate sum add mul pow
 example-reading =
     record {
-      from = 0b011;
-      buffer = 0x00 ∷ 0x00 ∷ [];
-      accepted = decode-by _ _ _ _ [] tt _ refl;
-      undamaged = undamaged-by _ 0b011 (omega arith) tt;
+      from = 0b111;
+      buffer = 0x00 ∷ [];
+      accepted = decode-by _ _ _ _ (0x02 ∷ []) tt _ refl;
+      undamaged = undamaged-by _ 0b111 (omega arith) tt;
     }
 
--- .. and by the ledger: every reading there gives these bytes.
-pub example-ledger : (out : List ℕ) → Reading left machine out → out ≡ 0x01 ∷ 0x01 ∷ []
+-- .. and by the ledger: every reading there gives this byte.
+pub example-ledger : (out : List ℕ) → Reading left machine out → out ≡ 0x05 ∷ []
 example-ledger out rd = reading-is-ledger example rd

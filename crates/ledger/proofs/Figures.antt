@@ -1,4 +1,5 @@
--- "Figures to prove" (document 01): one table, and one theorem over its rows, by computing. Assumes nothing.
+-- "Figures to prove" (document 01), and those of an arrangement with slack to spare (document 02, 2026-01): one table, and one theorem over its rows, by
+-- computing. Assumes nothing.
 use mathlib.Core.Path.{_≡_, refl}
 use mathlib.Core.List.{List, [], _∷_}
 use Prim.Native.Nat.{ℕ}
@@ -10,8 +11,8 @@ use Rattle.base.specs.Seq.{cell}
 use Rattle.field.specs.Field.{add, mul, pow, Inverse}
 use Rattle.field.specs.FiniteSum.{sum}
 use Rattle.interpolation.specs.Polynomial.{evaluate}
-use Rattle.params.specs.Nodes.{has, size, within, disjoint, count}
-use Rattle.params.specs.Params.{slackParts}
+use Rattle.params.specs.Nodes.{has, size, within, disjoint, count, lowest}
+use Rattle.params.specs.Params.{slackParts, working}
 use Rattle.gates.specs.Gates.{encodeGate, decodeGate, deltaGate, updateGate, repairGate, reconfigureGate}
 use Rattle.params.specs.declared.Params.{Params}
 use Rattle.params.specs.declared.Shape.{Shape}
@@ -55,6 +56,10 @@ a & b = (a, b)
 abbrev pub small : Params
 small = record { k = 1; r = 2; w = 2; n = 3; b = 1 }
 
+-- (1,2,3,3), B = 1: two nodes are read, and one is used
+abbrev pub spare : Params
+spare = record { k = 1; r = 2; w = 3; n = 3; b = 1 }
+
 -- A set's lowest bit is node 1: 0b011 is {1, 2}.
 abbrev pub table : List Row
 table =
@@ -78,11 +83,17 @@ table =
     -- "rebuild of 1 from 2, 3 gives 03"
     repairs small (0xff ∷ 0x0c ∷ 0x0f ∷ []) 0b110 0b001 (0x03 ∷ 0x0c ∷ 0x0f ∷ []) ∷
     -- "rearranged to (2,2,3,3), message 01 01, all traps in W': 00 06 06"
-    reconfigures small (record { k = 2; r = 2; w = 3; n = 3 }) (0x03 ∷ 0x0c ∷ 0x0f ∷ []) 0b110 0b111 (0x01 ∷ 0x01 ∷ []) (0x00 ∷ 0x06 ∷ 0x06 ∷ []) ∷ []
+    reconfigures small (record { k = 2; r = 2; w = 3; n = 3 }) (0x03 ∷ 0x0c ∷ 0x0f ∷ []) 0b110 0b111 (0x01 ∷ 0x01 ∷ []) (0x00 ∷ 0x06 ∷ 0x06 ∷ []) ∷
+    -- with slack to spare: message 07, no slack; then node 2 is damaged, and the lowest node of R alone counts, in a rebuild and a rearrangement too
+    encodes spare (0x07 ∷ []) [] (0x07 ∷ 0x0e ∷ 0x09 ∷ []) ∷
+    decodes spare (0x07 ∷ 0xff ∷ 0x09 ∷ []) 0b011 (0x07 ∷ []) ∷
+    decodes spare (0x07 ∷ 0xff ∷ 0x09 ∷ []) 0b110 (0xf1 ∷ []) ∷
+    repairs spare (0x07 ∷ 0xff ∷ 0x00 ∷ []) 0b011 0b100 (0x07 ∷ 0xff ∷ 0x09 ∷ []) ∷
+    reconfigures spare (record { k = 1; r = 3; w = 2; n = 3 }) (0x07 ∷ 0xff ∷ 0x09 ∷ []) 0b101 0b110 (0x05 ∷ []) (0x07 ∷ 0x02 ∷ 0x05 ∷ []) ∷ []
 
 -- Every row holds. The lists given are the slacks and pairs that the definitions speak of.
 pub figures : All holds table
-unfolding encodeGate decodeGate deltaGate updateGate repairGate reconfigureGate firstNo slackParts has size ones within disjoint count cell block point evaluate sum add mul pow
+unfolding encodeGate decodeGate deltaGate updateGate repairGate reconfigureGate firstNo slackParts working has size ones within disjoint count lowest cell block point evaluate sum add mul pow
 figures =
     refl &
     refl &
@@ -97,4 +108,9 @@ figures =
     decode-by _ _ _ _ (0x03 ∷ []) tt &
     repair-by _ _ _ _ _ (0x00 ∷ []) (0x03 ∷ []) tt &
     reconfigure-by _ _ _ _ _ _ _ (0x00 ∷ []) (0x03 ∷ []) [] tt &
+    encode-by _ _ _ _ tt &
+    decode-by _ _ _ _ [] tt &
+    decode-by _ _ _ _ [] tt &
+    repair-by _ _ _ _ _ (0x07 ∷ []) [] tt &
+    reconfigure-by _ _ _ _ _ _ _ (0x07 ∷ []) [] (0x02 ∷ []) tt &
     tt

@@ -16,9 +16,9 @@ use Rattle.params.specs.Params.{reshaped}
 use Rattle.gates.specs.Valid.{Valid}
 use Rattle.params.specs.declared.Params.{Params}
 use Rattle.params.specs.declared.Shape.{Shape}
-use Rattle.code.specs.Code.{Parts, block, Pair, Gives}
+use Rattle.code.specs.Code.{Parts, block, Pair, Gives, used}
 use Rattle.code.specs.Calls.{Encoded, Updated, Repaired, Reconfigured}
-use Rattle.code.proofs.Pairs.{Reads, pair-blocks}
+use Rattle.code.proofs.Pairs.{Reads, pair-blocks, gives-used}
 use Rattle.code.proofs.Additivity.{pair-plus, block-add}
 use Rattle.ledger.specs.Ledger.{damagedWord}
 
@@ -70,10 +70,10 @@ module _ (a : Params) (codeword ledger : List ℕ) (damaged : ℕ → Bool) (i :
       go j p hj hp false true dc e = absurd (true≢false e)
       go j p hj hp false false dc e = i .holds j p hj dc hp
 
-  module _ (valid : Valid a) (from : ℕ) (full : Reads a (has from)) (u : (j : ℕ) → has from j ≡ true → damaged j ≡ false) where
+  module _ (valid : Valid a) (from : ℕ) (full : Reads a (used a from)) (u : (j : ℕ) → has from j ≡ true → damaged j ≡ false) where
     -- R's pair, R undamaged, is the ledger's.
-    read-back : (x v : List ℕ) → Gives a x v (has from) codeword → (j p : ℕ) → block a x v j p ≡ block a ledger (i .slack) j p
-    read-back x v g = pair-blocks a valid (has from) full x ledger v (i .slack) codeword g (undamaged-gives from u)
+    read-back : (x v : List ℕ) → Gives a x v (used a from) codeword → (j p : ℕ) → block a x v j p ≡ block a ledger (i .slack) j p
+    read-back x v g = pair-blocks a valid (used a from) full x ledger v (i .slack) codeword g (gives-used a from (undamaged-gives from u))
 
     pub repair-sound : (lost : ℕ) (new : List ℕ) → Repaired a codeword from lost new → Sound a new ledger (λ j. damaged j && not (has lost j))
     repair-sound lost new r =

@@ -1,18 +1,19 @@
 -- A rebuild: what its core asks of an accepted call, that recomputed blocks put in place are what it does, and what this makes of the call. Assumes nothing.
-use mathlib.Core.Path.{_≡_, sym, _∙_}
+use mathlib.Core.Path.{_≡_, _∙_}
 use mathlib.Core.List.{List}
 use Prim.Native.Nat.{ℕ, suc, _*_, _^_, _<_}
 use native.Mathlib.Omega.{arith}
 use lib.ListN.{length}
 use Rattle.base.proofs.Parts.{row-ends}
 use Rattle.field.specs.Field.{Bytes}
-use Rattle.params.specs.Nodes.{has, size}
+use Rattle.params.specs.Nodes.{size}
 use Rattle.params.specs.declared.Params.{Params}
 use Rattle.params.proofs.Sets.{within-has}
 use Rattle.gates.specs.Valid.{RepairAccepted}
-use Rattle.gates.proofs.Valid.{working-is}
+use Rattle.code.specs.Code.{used}
 use Rattle.code.specs.Calls.{Repaired}
 use Rattle.code.proofs.Pairs.{pair-exists, from-reads}
+use Rattle.code.proofs.Used.{Uses, gives-chosen}
 use Rattle.placing.specs.Placed.{Puttable, PutPost}
 use Rattle.extension.specs.Blocks.{Recomputable, RecomputePost}
 use Rattle.maintenance.specs.Cores.{Rebuildable, Rebuilt}
@@ -41,26 +42,26 @@ module _ (a : Params) (from lost : ℕ) (old : List ℕ) (ok : Rebuildable a fro
 
 -- ---- the call
 
-module _ (a : Params) (from lost : ℕ) (word : from < 2 ^ 32) (word′ : lost < 2 ^ 32) where
-  pub rebuildable : (codeword : ℕ) → RepairAccepted a codeword from lost → Rebuildable a from lost codeword
-  rebuildable codeword ok =
+module _ (a : Params) (from chosen lost : ℕ) (u : Uses a from chosen) where
+  pub rebuildable : (codeword : ℕ) → lost < 2 ^ 32 → RepairAccepted a codeword from lost → Rebuildable a chosen lost codeword
+  rebuildable codeword word ok =
       record {
-        full = ok .from-size ∙ sym (working-is a (ok .valid));
-        from-inside = within-has (a .n) from word .0 (ok .from-within);
-        lost-inside = within-has (a .n) lost word′ .0 (ok .lost-within);
+        full = u .full;
+        from-inside = u .inside;
+        lost-inside = within-has (a .n) lost word .0 (ok .lost-within);
         codeword-length = ok .codeword-length;
         b-low = ok .valid .b-low;
         b-high = ok .valid .b-high;
       }
 
-  pub repaired : (old new : List ℕ) → RepairAccepted a (length old) from lost → Bytes old → Rebuilt a from lost old new → Repaired a old from lost new
+  pub repaired : (old new : List ℕ) → RepairAccepted a (length old) from lost → Bytes old → Rebuilt a chosen lost old new → Repaired a old from lost new
   repaired old new ok bytes done =
-      let g = pair-exists a (ok .valid) (has from) (from-reads a from (ok .valid) (ok .from-within) (ok .from-size)) old bytes in
+      let g = pair-exists a (ok .valid) (used a from) (from-reads a from (ok .valid) (ok .from-within) (ok .from-size)) old bytes in
       record {
         message = g .0;
         slack = g .1;
         gives = g .2;
         length-is = done .same ∙ ok .codeword-length;
-        rebuilt = λ j p hj e hp. done .rebuilt (g .0) (g .1) (g .2) j p e hp;
+        rebuilt = λ j p hj e hp. done .rebuilt (g .0) (g .1) (gives-chosen u (g .2)) j p e hp;
         kept = λ j p hj e hp. done .kept j p e hp;
       }

@@ -10,7 +10,7 @@ ghost use Rattle.params.specs.Nodes.{size};
 ghost use Rattle.code.specs.Calls.{RepairPost};
 ghost use Rattle.maintenance.specs.Cores.{Rebuildable, Rebuilt};
 
-// The blocks of lost become those of the pair of from's blocks.
+// The blocks of lost become those of the pair of from's q lowest blocks, q the working number.
 pub fn repair(a: Params, codeword: &mut [u8], from: NodeSet, lost: NodeSet) -> u32
     ensures { λ r. ⌜ RepairPost a (from .0) (lost .0) (now (codeword .entry)) r (now (codeword .exit)) ⌝ }
 {
@@ -18,7 +18,7 @@ pub fn repair(a: Params, codeword: &mut [u8], from: NodeSet, lost: NodeSet) -> u
     if refusal != 0 {
         return refusal;
     }
-    repair_blocks(a, codeword, from, lost);
+    repair_blocks(a, codeword, from.lowest(a.working()), lost);
     0
 }
 

@@ -20,14 +20,14 @@ use Rattle.params.specs.Nodes.{has, size}
 use Rattle.params.specs.Params.{slackParts, reshaped}
 use Rattle.params.specs.declared.Params.{Params}
 use Rattle.params.specs.declared.Shape.{Shape}
-use Rattle.params.proofs.Sets.{range-yes, range-no, within-has}
+use Rattle.params.proofs.Sets.{range-yes, range-no}
 use Rattle.params.proofs.Outside.{Outside, outside-has, outside-le, outside-node, outside-size}
 use Rattle.gates.specs.Valid.{ReconfigureAccepted}
-use Rattle.gates.proofs.Valid.{working-is}
-use Rattle.code.specs.Code.{point, block}
+use Rattle.code.specs.Code.{point, block, used}
 use Rattle.code.specs.Calls.{Reconfigured}
 use Rattle.code.proofs.Additivity.{block-byte}
 use Rattle.code.proofs.Pairs.{slack-exists, written-leaves, pair-exists, from-reads}
+use Rattle.code.proofs.Used.{Uses, gives-chosen}
 use Rattle.blocks.specs.Bytes.{over}
 use Rattle.blocks.proofs.Laws.{over-length, over-at}
 use Rattle.extension.specs.Blocks.{Recomputable, RecomputePost, CompleteAsks, CompletePost}
@@ -120,12 +120,12 @@ module _ (a : Params) (t : Shape) (from to rest kept made : ℕ) (codeword messa
 
 -- ---- the call
 
-module _ (a : Params) (t : Shape) (from to : ℕ) (word : from < 2 ^ 32) where
-  pub reconfigurable : (old new message : ℕ) → ReconfigureAccepted a t old new message from to → Reconfigurable a t old new message from to
+module _ (a : Params) (t : Shape) (from chosen to : ℕ) (u : Uses a from chosen) where
+  pub reconfigurable : (old new message : ℕ) → ReconfigureAccepted a t old new message from to → Reconfigurable a t old new message chosen to
   reconfigurable old new message ok =
       record {
-        full = ok .from-size ∙ sym (working-is a (ok .valid));
-        from-inside = within-has (a .n) from word .0 (ok .from-within);
+        full = u .full;
+        from-inside = u .inside;
         to-within = ok .to-within;
         to-size = ok .to-size;
         n-high = ok .valid .shape .n-high;
@@ -139,9 +139,9 @@ module _ (a : Params) (t : Shape) (from to : ℕ) (word : from < 2 ^ 32) where
       }
 
   pub reconfigured : (codeword message old new : List ℕ) → ReconfigureAccepted a t (length codeword) (length old) (length message) from to
-      → Bytes codeword → Bytes message → Rewritten a t codeword from to message new → Reconfigured a t codeword from to message new
+      → Bytes codeword → Bytes message → Rewritten a t codeword chosen to message new → Reconfigured a t codeword from to message new
   reconfigured codeword message old new ok bytes bytes′ done =
-      let pair = pair-exists a (ok .valid) (has from) (from-reads a from (ok .valid) (ok .from-within) (ok .from-size)) codeword bytes in
+      let pair = pair-exists a (ok .valid) (used a from) (from-reads a from (ok .valid) (ok .from-within) (ok .from-size)) codeword bytes in
       let found =
       slack-exists (reshaped a t) (ok .valid-new) (has to) (written-leaves (reshaped a t) to (ok .valid-new) (ok .to-within) (ok .to-size)) message
       (block a (pair .0) (pair .1)) (block-byte a (pair .0) (pair .1)) in
@@ -153,6 +153,6 @@ module _ (a : Params) (t : Shape) (from to : ℕ) (word : from < 2 ^ 32) where
         pair = record { message = record { length-is = ok .message-length; bytes = bytes′ }; slack = found .1 .parts };
         agrees = found .1 .equal;
         length-is = done .length-is;
-        written = done .written (pair .0) (pair .1) (found .0) (pair .2) (found .1);
+        written = done .written (pair .0) (pair .1) (found .0) (gives-chosen u (pair .2)) (found .1);
         copied = done .copied;
       }

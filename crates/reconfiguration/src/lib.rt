@@ -15,7 +15,7 @@ ghost use Rattle.params.specs.Params.{slackParts, reshaped};
 ghost use Rattle.code.specs.Calls.{ReconfigurePost};
 ghost use Rattle.reconfiguration.specs.Core.{Reconfigurable, Rewritten};
 
-// Writes the record of the new shape to out. The old record is only read.
+// Writes the record of the new shape to out. The old record is only read, its pair from the blocks of from's q lowest nodes, q the working number.
 pub fn reconfigure(
     a: Params,
     shape: Shape,
@@ -31,7 +31,15 @@ pub fn reconfigure(
     if refusal != 0 {
         return refusal;
     }
-    reconfigure_blocks(a, shape, codeword, from, to, message, out);
+    reconfigure_blocks(
+        a,
+        shape,
+        codeword,
+        from.lowest(a.working()),
+        to,
+        message,
+        out,
+    );
     0
 }
 

@@ -51,7 +51,7 @@ decoded-exists : (h : Held) (from : ℕ) → decodeGate (h .params) (h .params .
     → Bytes (h .codeword) → (x : List ℕ) × Decoded (h .params) (h .codeword) from x
 decoded-exists h from z hb =
     let g = decode-accepted (h .params) _ _ from .0 z in
-    let e = pair-exists (h .params) (g .valid) (has from) (from-reads (h .params) from (g .valid) (g .from-within) (g .from-size)) (h .codeword) hb in
+    let e = pair-exists (h .params) (g .valid) (used (h .params) from) (from-reads (h .params) from (g .valid) (g .from-within) (g .from-size)) (h .codeword) hb in
     (e .0, record { slack = e .1; gives = e .2 })
 
 prints-once : (h : Held) (e : Event) (x y : List ℕ) → Prints h e x → Prints h e y → x ≡ y
