@@ -22,7 +22,8 @@ pub fn decode(a: Params, codeword: &[u8], from: NodeSet, out: &mut [u8]) -> u32
     if refusal != 0 {
         return refusal;
     }
-    decode_parts(a, codeword, from.lowest(a.working()), out);
+    let used = from.lowest(a.working());
+    decode_parts(a, codeword, used, out);
     0
 }
 

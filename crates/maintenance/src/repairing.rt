@@ -18,7 +18,8 @@ pub fn repair(a: Params, codeword: &mut [u8], from: NodeSet, lost: NodeSet) -> u
     if refusal != 0 {
         return refusal;
     }
-    repair_blocks(a, codeword, from.lowest(a.working()), lost);
+    let used = from.lowest(a.working());
+    repair_blocks(a, codeword, used, lost);
     0
 }
 

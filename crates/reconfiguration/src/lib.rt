@@ -31,15 +31,8 @@ pub fn reconfigure(
     if refusal != 0 {
         return refusal;
     }
-    reconfigure_blocks(
-        a,
-        shape,
-        codeword,
-        from.lowest(a.working()),
-        to,
-        message,
-        out,
-    );
+    let used = from.lowest(a.working());
+    reconfigure_blocks(a, shape, codeword, used, to, message, out);
     0
 }
 

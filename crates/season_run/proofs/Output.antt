@@ -9,9 +9,9 @@ use lib.ListN.{length, take, replicate, length-replicate}
 use Rattle.base.proofs.Cases.{lt-or, eq-or}
 use Rattle.field.specs.Field.{Bytes}
 use Rattle.field.proofs.Bytes.{bytes-take}
-use Rattle.params.specs.Nodes.{has}
 use Rattle.gates.specs.Gates.{encodeGate, decodeGate}
 use Rattle.gates.proofs.Valid.{decode-accepted}
+use Rattle.code.specs.Code.{used}
 use Rattle.code.specs.Calls.{Decoded, EncodePost}
 use Rattle.code.proofs.Pairs.{from-reads, pair-exists}
 use Rattle.code.proofs.Determined.{encode-met, encode-once}

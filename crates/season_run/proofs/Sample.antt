@@ -11,8 +11,8 @@ use Rattle.base.specs.Seq.{cell, blocks, tabulate}
 use Rattle.field.specs.Field.{add, mul, pow}
 use Rattle.field.specs.FiniteSum.{sum}
 use Rattle.interpolation.specs.Polynomial.{evaluate}
-use Rattle.params.specs.Nodes.{has, size, within, disjoint, count}
-use Rattle.params.specs.Params.{slackParts}
+use Rattle.params.specs.Nodes.{has, size, within, disjoint, count, lowest}
+use Rattle.params.specs.Params.{slackParts, working}
 use Rattle.gates.specs.Gates.{encodeGate, decodeGate, updateGate, damageGate}
 use Rattle.params.specs.declared.Params.{Params}
 use Rattle.code.specs.Code.{point, block}
@@ -66,8 +66,8 @@ ends : length input ≤ 45
 ends = omega arith
 
 pub sample : Season input output
-unfolding openingOf itemAt numberAt choiceAt lineOf decimal digitsBefore hexDigit hex messageField answerOf encodeGate decodeGate updateGate damageGate firstNo slackParts
-    has size ones within disjoint count cell blocks tabulate block point evaluate sum add mul pow damagedWord
+unfolding openingOf itemAt numberAt choiceAt lineOf decimal digitsBefore hexDigit hex messageField answerOf encodeGate decodeGate updateGate damageGate firstNo slackParts working
+    has size ones within disjoint count lowest cell blocks tabulate block point evaluate sum add mul pow damagedWord
 sample =
     season
     (opened (record { params = small; message = record { at = 14; count = 1 }; slack = record { at = 17; count = 1 }; events = 5; at = 20 })

@@ -8,6 +8,7 @@ use lib.ListN.{length}
 use Rattle.gates.specs.Valid.{ReconfigureAccepted}
 use Rattle.gates.proofs.Valid.{reconfigure-accepted}
 use Rattle.code.proofs.Posts.{served, refused}
+use Rattle.code.proofs.Used.{Uses, uses}
 use Rattle.reconfiguration.proofs.Rewriting.{reconfigurable, reconfigured}
 use Rattle.reconfiguration.proofs.reconfigure.Statement.{statement}
 use Rattle.reconfiguration.proofs.reconfigure.Tie as tie
@@ -29,24 +30,37 @@ accepted : (c : tie.Else1)
     (start c .args .from .0) (start c .args .to .0)
 accepted c = reconfigure-accepted _ _ _ _ _ _ _ .0 (sym (c .before .reconfigure-gate .ensures) ∙ c .if1 .left)
 
+working-requires : tie.Need-working-requires
+working-requires c κs = search needs
+
+lowest-requires : tie.Need-lowest-requires
+lowest-requires c κs = search needs
+
+chosen : (c : tie.After-lowest) → let s = start (c .before .before) .args in Uses (s .a) (s .from .0) (c .lowest .result .0)
+chosen c =
+    let e = c .before .before in
+    let ok = accepted e in
+    uses _ _ _ _ (ok .valid) (ok .from-within) (ok .from-size) (word-from (start e)) (omega arith) (c .before .working .ensures) (c .lowest .ensures)
+
 reconfigure-blocks-requires : tie.Need-reconfigure-blocks-requires
-reconfigure-blocks-requires c κs = reconfigurable _ _ _ _ (word-from (start (c .before))) _ _ _ (accepted (c .before))
+reconfigure-blocks-requires c κs = reconfigurable _ _ _ _ _ (chosen (c .before)) _ _ _ (accepted (c .before .before .before))
 
 same-length : tie.Need-same-length
 same-length c = search needs
 
 returns-2 : tie.Need-returns-2
 returns-2 c =
-    let e = c .before .before .before .before in
+    let l = c .before .before .before .before in
+    let e = l .before .before in
     let s = start e .args in
     let bytes = e .before .before .before .before .shared-slice-known .given in
     let bytes′ = e .before .before .before .shared-slice-known2 .given in
     served _ (sym (e .before .reconfigure-gate .ensures) ∙ e .if1 .left)
-    (reconfigured (s .a) (s .shape) (s .from .0) (s .to .0) (word-from (start e)) (now (s .codeword)) (now (s .message)) (now (s .out)) _ (accepted e)
+    (reconfigured (s .a) (s .shape) (s .from .0) _ (s .to .0) (chosen l) (now (s .codeword)) (now (s .message)) (now (s .out)) _ (accepted e)
     (λ i. omega (arith, bytes i)) (λ i. omega (arith, bytes′ i))
     (c .before .before .reconfigure-blocks .ensures))
 
 pub reconfigure-spec : {M : Type 1} → statement M
 reconfigure-spec =
     tie.close
-    (tie.spec reconfigure-gate-requires returns reconfigure-blocks-requires same-length returns-2)
+    (tie.spec reconfigure-gate-requires returns working-requires lowest-requires reconfigure-blocks-requires same-length returns-2)

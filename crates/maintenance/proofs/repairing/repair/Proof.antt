@@ -1,5 +1,6 @@
 -- Refused, nothing is written; else the blocks are rebuilt. Assumes nothing.
 use mathlib.Core.Path.{refl, sym, _∙_}
+use Prim.Native.Nat.{_^_, _<_}
 use native.Mathlib.Omega.{arith}
 use borrow.Author.Needs.{needs}
 use denote.Ref.{now}
@@ -7,6 +8,7 @@ use lib.ListN.{length}
 use Rattle.gates.specs.Valid.{RepairAccepted}
 use Rattle.gates.proofs.Valid.{repair-accepted}
 use Rattle.code.proofs.Posts.{served, refused}
+use Rattle.code.proofs.Used.{Uses, uses}
 use Rattle.maintenance.proofs.Rebuilding.{rebuildable, repaired}
 use Rattle.maintenance.proofs.repairing.repair.Statement.{statement}
 use Rattle.maintenance.proofs.repairing.repair.Tie as tie
@@ -23,21 +25,43 @@ start c = c .before .before .before
 accepted : (c : tie.Else1) → RepairAccepted (start c .args .a) (length (now (start c .args .codeword))) (start c .args .from .0) (start c .args .lost .0)
 accepted c = repair-accepted _ _ _ _ .0 (sym (c .before .repair-gate .ensures) ∙ c .if1 .left)
 
+working-requires : tie.Need-working-requires
+working-requires c κs = search needs
+
+lowest-requires : tie.Need-lowest-requires
+lowest-requires c κs = search needs
+
+word-from : (c : tie.Start) → c .args .from .0 < 2 ^ 32
+word-from c = omega arith
+
+word-lost : (c : tie.Start) → c .args .lost .0 < 2 ^ 32
+word-lost c = omega arith
+
+chosen : (c : tie.After-lowest) → let s = start (c .before .before) .args in Uses (s .a) (s .from .0) (c .lowest .result .0)
+chosen c =
+    let e = c .before .before in
+    let ok = accepted e in
+    uses _ _ _ _ (ok .valid) (ok .from-within) (ok .from-size) (word-from (start e)) (omega arith) (c .before .working .ensures) (c .lowest .ensures)
+
 repair-blocks-requires : tie.Need-repair-blocks-requires
-repair-blocks-requires c κs = rebuildable _ _ _ (omega arith) (omega arith) _ (accepted (c .before))
+repair-blocks-requires c κs =
+    let l = c .before in
+    let e = l .before .before in
+    rebuildable _ _ _ _ (chosen l) _ (word-lost (start e)) (accepted e)
 
 same-length : tie.Need-same-length
 same-length c = search needs
 
 returns-2 : tie.Need-returns-2
 returns-2 c =
-    let e = c .before .before .before .before in
-    let s = e .before .before .before in
+    let l = c .before .before .before .before in
+    let e = l .before .before in
+    let s = start e in
     let bytes = e .before .before .slice-known .given in
     served _ (sym (e .before .repair-gate .ensures) ∙ e .if1 .left)
-    (repaired (s .args .a) (s .args .from .0) (s .args .lost .0) (omega arith) (omega arith) (now (s .args .codeword)) _ (accepted e) (λ i. omega (arith, bytes i))
+    (repaired (s .args .a) (s .args .from .0) _ (s .args .lost .0) (chosen l) (now (s .args .codeword)) _ (accepted e) (λ i. omega (arith, bytes i))
     (c .before .before .repair-blocks .ensures))
 
 pub repair-spec : {M : Type 1} → statement M
 repair-spec =
-    tie.close (tie.spec repair-gate-requires returns repair-blocks-requires same-length returns-2)
+    tie.close (tie.spec repair-gate-requires returns working-requires lowest-requires repair-blocks-requires same-length returns-2)
