@@ -1,5 +1,5 @@
-//! The calls of document 01. Each gives its number first; a refusal writes
-//! nothing.
+//! The calls of document 01, as request 2026-01 of document 02 has them. Each
+//! gives its number first; a refusal writes nothing.
 
 use crate::blocks::{add_to, Block};
 use crate::gate::{self, Arrangement, RearrangementLengths, Shape};
@@ -23,7 +23,8 @@ fn write_block(record: &mut [u8], trap: u64, block: &[u8]) {
     record[place(trap, block.len())].copy_from_slice(block);
 }
 
-/// Reading: the message of the one pair that gives R's blocks.
+/// Reading: the message of R's pair, the one that gives the blocks of R's q
+/// lowest traps.
 pub fn reading(a: &Arrangement, record: &[u8], read: u32, out: &mut [u8]) -> u64 {
     let number = gate::gate_reading(a, record.len(), read, out.len());
     if number != 0 {
@@ -120,14 +121,14 @@ fn new_pair(a: &Arrangement, record: &[u8], given: &Move) -> Pair {
     Pair::with_message(given.message, &given.to, a.b as usize, &wanted)
 }
 
-/// Check: 0 if all blocks come from the pair of traps 1..r, else the lowest
+/// Check: 0 if all blocks come from the pair of traps 1..q, else the lowest
 /// trap whose block differs. A refused check has no trap.
 pub fn check(a: &Arrangement, record: &[u8]) -> (u64, Option<u64>) {
     let number = gate::gate_record(a, record.len());
     if number != 0 {
         return (number, None);
     }
-    let first: Vec<u64> = (1..=a.shape.r).collect();
+    let first: Vec<u64> = (1..=a.shape.q()).collect();
     let pair = Pair::through(a, record, &first);
     let differs = |&trap: &u64| pair.block(trap) != record[place(trap, a.b as usize)];
     (0, Some((1..=a.shape.n).find(differs).unwrap_or(0)))

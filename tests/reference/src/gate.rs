@@ -23,7 +23,12 @@ impl Shape {
 
     /// The count of slack parts; only for an accepted shape.
     pub fn l(&self) -> u64 {
-        self.r - self.k
+        self.n - self.w
+    }
+
+    /// The working number, never above r; only for an accepted shape.
+    pub fn q(&self) -> u64 {
+        self.k + self.l()
     }
 
     /// The arrangement of this shape with blocks of `b` bytes.
@@ -60,7 +65,7 @@ fn ask_shape(s: &Shape, base: u64) -> u64 {
         base + 2
     } else if s.k < 1 || s.k > s.r || s.k > s.w {
         base + 3
-    } else if s.r + s.w != s.k + s.n {
+    } else if s.r + s.w < s.k + s.n {
         base + 4
     } else {
         0

@@ -61,10 +61,12 @@ impl Pair {
         self.parts[..k as usize].concat()
     }
 
-    /// The one pair that gives the blocks which the record has at these traps.
+    /// The pair of a call that is given these traps, in rising order: the one
+    /// that gives the blocks which the record has at the q lowest of them.
     pub fn through(a: &Arrangement, record: &[u8], traps: &[u64]) -> Pair {
         let size = a.b as usize;
-        let values = traps.iter().map(|&t| (t, record[place(t, size)].to_vec()));
+        let used = &traps[..a.shape.q() as usize];
+        let values = used.iter().map(|&t| (t, record[place(t, size)].to_vec()));
         Pair {
             parts: coefficients(1, values.collect()),
             size,

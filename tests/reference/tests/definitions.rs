@@ -3,7 +3,7 @@
 
 use reference::calls::Move;
 use reference::{
-    change, check, difference, reading, rearrangement, rebuild, setup, Arrangement, Shape,
+    change, check, difference, field, reading, rearrangement, rebuild, setup, Arrangement, Shape,
 };
 
 /// Bytes and choices without a plain pattern.
@@ -33,26 +33,66 @@ impl Numbers {
         let n = 1 + self.next() % 32;
         let k = 1 + self.next() % n;
         let w = k + self.next() % (n - k + 1);
-        Shape::new(k, k + n - w, w, n)
+        let least = k + n - w;
+        let r = least + self.next() % (n - least + 1);
+        Shape::new(k, r, w, n)
     }
+
+    /// Every shape of up to 6 traps, and so many others.
+    fn shapes(&mut self, others: usize) -> Vec<Shape> {
+        let mut shapes = small_shapes(6);
+        shapes.extend((0..others).map(|_| self.shape()));
+        shapes
+    }
+}
+
+/// Every shape that questions 1 to 4 pass, with n up to this.
+fn small_shapes(most: u64) -> Vec<Shape> {
+    let mut shapes = Vec::new();
+    for n in 1..=most {
+        for k in 1..=n {
+            for w in k..=n {
+                let passing = (k..=n).filter(|r| r + w >= k + n);
+                shapes.extend(passing.map(|r| Shape::new(k, r, w, n)));
+            }
+        }
+    }
+    shapes
 }
 
 fn named(choice: u32, trap: u64) -> bool {
     (choice >> (trap - 1)) & 1 == 1
 }
 
+/// The working number: k and the n - w parts of the slack.
+fn working(shape: &Shape) -> u64 {
+    shape.k + shape.n - shape.w
+}
+
+/// R's q lowest traps.
+fn lowest(shape: &Shape, read: u32) -> u32 {
+    let mut lowest = 0u32;
+    for trap in (1..=32).filter(|&t| named(read, t)) {
+        if u64::from(lowest.count_ones()) < working(shape) {
+            lowest |= 1 << (trap - 1);
+        }
+    }
+    lowest
+}
+
 fn block(record: &[u8], trap: u64, b: u64) -> &[u8] {
     &record[((trap - 1) * b) as usize..(trap * b) as usize]
 }
 
-/// All the blocks that R's pair gives to the traps 1..n': a reading of all r
+/// All the blocks that R's pair gives to the traps 1..n': a reading of all q
 /// parts, as a message without slack, and a set-up with them.
 fn blocks_of_pair(a: &Arrangement, record: &[u8], read: u32, n: u64) -> Vec<u8> {
-    let Shape { r, n: old, .. } = a.shape;
-    let mut parts = vec![0; (r * a.b) as usize];
-    let whole = Arrangement::new(r, r, old, old, a.b);
-    assert_eq!(reading(&whole, record, read, &mut parts), 0);
-    let slackless = Arrangement::new(r, r, 32, 32, a.b);
+    let q = working(&a.shape);
+    let mut parts = vec![0; (q * a.b) as usize];
+    let whole = Arrangement::new(q, q, a.shape.n, a.shape.n, a.b);
+    let used = lowest(&a.shape, read);
+    assert_eq!(reading(&whole, record, used, &mut parts), 0);
+    let slackless = Arrangement::new(q, q, 32, 32, a.b);
     let mut blocks = vec![0; 32 * a.b as usize];
     assert_eq!(setup(&slackless, &parts, &[], &mut blocks), 0);
     blocks.truncate((n * a.b) as usize);
@@ -62,12 +102,13 @@ fn blocks_of_pair(a: &Arrangement, record: &[u8], read: u32, n: u64) -> Vec<u8> 
 #[test]
 fn readings_give_their_pairs_message() {
     let mut numbers = Numbers(11);
-    for _ in 0..300 {
-        let a = numbers.shape().with(3);
+    for shape in numbers.shapes(300) {
+        let a = shape.with(3);
         let record = numbers.bytes(a.shape.n * 3);
         let read = numbers.choice(a.shape.n, a.shape.r);
         let blocks = blocks_of_pair(&a, &record, read, a.shape.n);
-        for trap in (1..=a.shape.n).filter(|&t| named(read, t)) {
+        let used = lowest(&shape, read);
+        for trap in (1..=a.shape.n).filter(|&t| named(used, t)) {
             assert_eq!(block(&blocks, trap, 3), block(&record, trap, 3));
         }
         assert_eq!(check(&a, &blocks), (0, Some(0)));
@@ -89,13 +130,51 @@ fn read_any(numbers: &mut Numbers, a: &Arrangement, record: &[u8]) -> Vec<u8> {
     read_through(a, record, read)
 }
 
+/// The document's sum: the byte that parts of one byte each give to a trap.
+fn sum(parts: &[u8], trap: u64) -> u8 {
+    let terms = (1..).zip(parts);
+    let products = terms.map(|(e, &part)| field::mul(part, field::pow(trap as u8, e)));
+    products.fold(0, field::add)
+}
+
+/// Every pair of at most two bytes.
+fn pairs(parts: u64) -> Vec<Vec<u8>> {
+    let counted = 0..1u32 << (8 * parts);
+    let bytes = |number: u32| number.to_le_bytes()[..parts as usize].to_vec();
+    counted.map(bytes).collect()
+}
+
+/// Of all pairs one alone gives the blocks of R's q lowest traps, whichever
+/// bytes they hold, and the reading is its message.
+#[test]
+fn one_pair_gives_the_lowest_blocks() {
+    let mut numbers = Numbers(17);
+    for shape in small_shapes(5) {
+        let q = working(&shape);
+        if q > 2 {
+            continue;
+        }
+        let record = numbers.bytes(shape.n);
+        let read = numbers.choice(shape.n, shape.r);
+        let used = lowest(&shape, read);
+        let gives = |pair: &Vec<u8>| {
+            let mut traps = (1..=shape.n).filter(|&t| named(used, t));
+            traps.all(|t| sum(pair, t) == record[t as usize - 1])
+        };
+        let found: Vec<_> = pairs(q).into_iter().filter(gives).collect();
+        assert_eq!(found.len(), 1);
+        let message = &found[0][..shape.k as usize];
+        assert_eq!(read_through(&shape.with(1), &record, read), message);
+    }
+}
+
 #[test]
 fn every_reading_after_setup_is_the_message() {
     let mut numbers = Numbers(12);
-    for _ in 0..300 {
-        let a = numbers.shape().with(2);
+    for shape in numbers.shapes(300) {
+        let a = shape.with(2);
         let message = numbers.bytes(a.shape.k * 2);
-        let slack = numbers.bytes(a.shape.l() * 2);
+        let slack = numbers.bytes((shape.n - shape.w) * 2);
         let mut record = numbers.bytes(a.shape.n * 2);
         assert_eq!(setup(&a, &message, &slack, &mut record), 0);
         assert_eq!(check(&a, &record), (0, Some(0)));
@@ -106,8 +185,8 @@ fn every_reading_after_setup_is_the_message() {
 #[test]
 fn differences_are_a_record_of_d_that_is_zero_outside_w() {
     let mut numbers = Numbers(13);
-    for _ in 0..300 {
-        let a = numbers.shape().with(2);
+    for shape in numbers.shapes(300) {
+        let a = shape.with(2);
         let d = numbers.bytes(a.shape.k * 2);
         let write = numbers.choice(a.shape.n, a.shape.w);
         let mut out = numbers.bytes(a.shape.w * 2);
@@ -137,11 +216,37 @@ fn spread(a: &Arrangement, write: u32, differences: &[u8]) -> Vec<u8> {
     record
 }
 
+/// Of all slacks one alone gives 00 outside W with this d.
+#[test]
+fn one_slack_is_zero_outside_w() {
+    let mut numbers = Numbers(18);
+    for shape in small_shapes(5) {
+        let slack = shape.n - shape.w;
+        if slack > 2 {
+            continue;
+        }
+        let d = numbers.bytes(shape.k);
+        let write = numbers.choice(shape.n, shape.w);
+        let parts = pairs(slack).into_iter().map(|v| [d.clone(), v].concat());
+        let zero = |pair: &Vec<u8>| {
+            let mut traps = (1..=shape.n).filter(|&t| !named(write, t));
+            traps.all(|t| sum(pair, t) == 0)
+        };
+        let found: Vec<_> = parts.filter(zero).collect();
+        assert_eq!(found.len(), 1);
+        let traps = (1..=shape.n).filter(|&t| named(write, t));
+        let expected: Vec<u8> = traps.map(|t| sum(&found[0], t)).collect();
+        let mut out = numbers.bytes(shape.w);
+        assert_eq!(difference(&shape.with(1), &d, write, &mut out), 0);
+        assert_eq!(out, expected);
+    }
+}
+
 #[test]
 fn rebuild_writes_the_lost_traps_only() {
     let mut numbers = Numbers(14);
-    for _ in 0..300 {
-        let a = numbers.shape().with(2);
+    for shape in numbers.shapes(300) {
+        let a = shape.with(2);
         let before = numbers.bytes(a.shape.n * 2);
         let read = numbers.choice(a.shape.n, a.shape.r);
         let lost = numbers.next() as u32 & !read & ((1u64 << a.shape.n) - 1) as u32;
@@ -155,25 +260,35 @@ fn rebuild_writes_the_lost_traps_only() {
     }
 }
 
+/// Tests one rearrangement between shapes.
+fn test_rearrangement(numbers: &mut Numbers, from: Shape, to: Shape) {
+    let a = from.with(2);
+    let record = numbers.bytes(from.n * 2);
+    let message = numbers.bytes(to.k * 2);
+    let given = Move {
+        read: numbers.choice(from.n, from.r),
+        to,
+        write: numbers.choice(to.n, to.w),
+        message: &message,
+    };
+    let mut new = numbers.bytes(to.n * 2);
+    assert_eq!(rearrangement(&a, &record, &given, &mut new), 0);
+    let pair = tested_pair(&a, &record, &given, &new);
+    assert_eq!(check(&to.with(2), &pair), (0, Some(0)));
+    assert_eq!(read_any(numbers, &to.with(2), &pair), message);
+}
+
 #[test]
 fn rearrangement_by_its_three_cases() {
     let mut numbers = Numbers(15);
+    for from in small_shapes(4) {
+        for to in small_shapes(5) {
+            test_rearrangement(&mut numbers, from, to);
+        }
+    }
     for _ in 0..500 {
-        let a = numbers.shape().with(2);
-        let to = numbers.shape();
-        let record = numbers.bytes(a.shape.n * 2);
-        let message = numbers.bytes(to.k * 2);
-        let given = Move {
-            read: numbers.choice(a.shape.n, a.shape.r),
-            to,
-            write: numbers.choice(to.n, to.w),
-            message: &message,
-        };
-        let mut new = numbers.bytes(to.n * 2);
-        assert_eq!(rearrangement(&a, &record, &given, &mut new), 0);
-        let pair = tested_pair(&a, &record, &given, &new);
-        assert_eq!(check(&to.with(2), &pair), (0, Some(0)));
-        assert_eq!(read_any(&mut numbers, &to.with(2), &pair), message);
+        let (from, to) = (numbers.shape(), numbers.shape());
+        test_rearrangement(&mut numbers, from, to);
     }
 }
 
@@ -199,21 +314,75 @@ fn tested_pair(a: &Arrangement, record: &[u8], given: &Move, new: &[u8]) -> Vec<
 #[test]
 fn check_names_the_lowest_trap_that_differs() {
     let mut numbers = Numbers(16);
-    for _ in 0..300 {
-        let a = numbers.shape().with(2);
-        let Shape { k, r, n, .. } = a.shape;
+    for shape in numbers.shapes(300) {
+        let a = shape.with(2);
+        let Shape { k, w, n, .. } = shape;
+        let q = working(&shape);
         let mut record = vec![0; (n * 2) as usize];
-        let (message, slack) = (numbers.bytes(k * 2), numbers.bytes((r - k) * 2));
+        let (message, slack) = (numbers.bytes(k * 2), numbers.bytes((n - w) * 2));
         assert_eq!(setup(&a, &message, &slack, &mut record), 0);
         let bad = 1 + numbers.next() % n;
         record[(bad * 2 - 1) as usize] ^= 0x40;
-        let expected = if bad > r {
+        let expected = if bad > q {
             bad
-        } else if r < n {
-            r + 1
+        } else if q < n {
+            q + 1
         } else {
             0
         };
         assert_eq!(check(&a, &record), (0, Some(expected)));
+    }
+}
+
+/// The record with other bytes in these traps.
+fn altered(numbers: &mut Numbers, record: &[u8], traps: u32, b: u64) -> Vec<u8> {
+    let mut altered = record.to_vec();
+    for (place, byte) in altered.iter_mut().enumerate() {
+        if named(traps, place as u64 / b + 1) {
+            *byte ^= 1 + (numbers.next() % 255) as u8;
+        }
+    }
+    altered
+}
+
+/// The r - q other traps of R may hold anything: readings, rebuilt blocks and
+/// newly written ones are the same.
+#[test]
+fn the_other_traps_of_r_do_not_matter() {
+    let mut numbers = Numbers(19);
+    for shape in numbers.shapes(500) {
+        let Shape { r, n, .. } = shape;
+        let a = shape.with(2);
+        let read = numbers.choice(n, r);
+        let others = read & !lowest(&shape, read);
+        assert_eq!(u64::from(others.count_ones()), r - working(&shape));
+        let record = numbers.bytes(n * 2);
+        let other = altered(&mut numbers, &record, others, 2);
+        assert_eq!(
+            read_through(&a, &record, read),
+            read_through(&a, &other, read)
+        );
+        let lost = ((1u64 << n) - 1) as u32 & !read;
+        let (mut one, mut two) = (record.clone(), other.clone());
+        assert_eq!(rebuild(&a, &mut one, read, lost), 0);
+        assert_eq!(rebuild(&a, &mut two, read, lost), 0);
+        for trap in (1..=n).filter(|&t| !named(others, t)) {
+            assert_eq!(block(&one, trap, 2), block(&two, trap, 2));
+        }
+        let to = numbers.shape();
+        let message = numbers.bytes(to.k * 2);
+        let given = Move {
+            read,
+            to,
+            write: numbers.choice(to.n, to.w),
+            message: &message,
+        };
+        let mut one = vec![0; (to.n * 2) as usize];
+        let mut two = one.clone();
+        assert_eq!(rearrangement(&a, &record, &given, &mut one), 0);
+        assert_eq!(rearrangement(&a, &other, &given, &mut two), 0);
+        for trap in (1..=to.n).filter(|&t| named(given.write, t) || !named(others, t)) {
+            assert_eq!(block(&one, trap, 2), block(&two, trap, 2));
+        }
     }
 }

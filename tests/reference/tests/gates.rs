@@ -11,7 +11,7 @@ fn number(k: u64, r: u64, w: u64, n: u64, b: u64) -> u64 {
 }
 
 #[test]
-fn edges_of_the_document() {
+fn edges_of_the_documents() {
     assert_eq!(number(1, 1, 32, 32, 1), 6);
     assert_eq!(number(2, 3, 3, 4, 1), 6);
     assert_eq!(number(1, 1, 33, 33, 1), 1);
@@ -19,10 +19,26 @@ fn edges_of_the_document() {
     assert_eq!(number(0, 1, 1, 2, 1), 3);
     assert_eq!(number(3, 2, 3, 4, 1), 3);
     assert_eq!(number(3, 3, 3, 4, 1), 4);
-    assert_eq!(number(1, 2, 3, 3, 1), 4);
+    assert_eq!(number(1, 2, 3, 3, 1), 6);
+    assert_eq!(number(1, 32, 32, 32, 1), 6);
     assert_eq!(number(1, 1, 1, 1, 1024), 6);
     assert_eq!(number(1, 1, 1, 1, 0), 5);
     assert_eq!(number(1, 1, 1, 1, 1025), 5);
+}
+
+/// Question 4 is no exactly where r + w is less than k + n.
+#[test]
+fn the_fourth_question() {
+    for n in 1..=32 {
+        for k in 1..=n {
+            for w in k..=n {
+                for r in k..=n {
+                    let expected = if r + w < k + n { 4 } else { 6 };
+                    assert_eq!(number(k, r, w, n, 1), expected);
+                }
+            }
+        }
+    }
 }
 
 #[test]
@@ -49,6 +65,35 @@ fn setup_refuses_each_wrong_length() {
         let mut held = vec![0xAA; record];
         let answer = setup(&a, &vec![1; message], &vec![2; slack], &mut held);
         assert_eq!((answer, held), (6, vec![0xAA; record]));
+    }
+}
+
+/// The slack has n - w parts also where r - k is another number.
+#[test]
+fn slack_lengths_of_loose_arrangements() {
+    for (k, r, w, n) in [(1, 2, 3, 3), (1, 3, 4, 5), (2, 5, 4, 6), (1, 32, 32, 32)] {
+        let a = Arrangement::new(k, r, w, n, 2);
+        let message = vec![1; k as usize * 2];
+        let right = (n - w) as usize * 2;
+        for slack in 0..=64 {
+            let mut held = vec![0xAA; n as usize * 2];
+            let answer = setup(&a, &message, &vec![2; slack], &mut held);
+            assert_eq!(answer, if slack == right { 0 } else { 6 });
+            assert_eq!(held == vec![0xAA; held.len()], answer == 6);
+        }
+    }
+}
+
+/// R has r traps, not q, and L keeps out of all of them.
+#[test]
+fn choices_of_loose_arrangements() {
+    let a = Arrangement::new(1, 3, 4, 5, 1);
+    for (read, expected) in [(0b00011, 8), (0b00111, 0), (0b11100, 0), (0b01111, 8)] {
+        assert_eq!(reading(&a, &[5; 5], read, &mut [0]), expected);
+        assert_eq!(rebuild(&a, &mut [5; 5], read, 0), expected);
+    }
+    for (lost, expected) in [(1, 9), (2, 9), (4, 9), (8, 0), (16, 0), (24, 0)] {
+        assert_eq!(rebuild(&a, &mut [5; 5], 0b00111, lost), expected);
     }
 }
 
@@ -143,6 +188,9 @@ fn rearrangement_asks_in_the_lists_order() {
     assert_eq!(moved(2, Shape::new(1, 4, 2, 3), (0xFF, 0xFF), 9, 9), 12);
     assert_eq!(moved(2, Shape::new(0, 2, 2, 3), (0xFF, 0xFF), 9, 9), 13);
     assert_eq!(moved(2, Shape::new(2, 2, 2, 3), (0xFF, 0xFF), 9, 9), 14);
+    assert_eq!(moved(2, Shape::new(1, 2, 3, 3), (0x0F, 0x07), 2, 6), 0);
+    assert_eq!(moved(2, Shape::new(1, 3, 2, 3), (0x0F, 0x05), 2, 6), 0);
+    assert_eq!(moved(2, Shape::new(1, 2, 3, 3), (0xFF, 0xFF), 9, 9), 6);
     assert_eq!(moved(2, to, (0xFF, 0xFF), 3, 6), 6);
     assert_eq!(moved(2, to, (0xFF, 0xFF), 2, 7), 6);
     assert_eq!(moved(2, to, (0x2F, 0x05), 2, 6), 7);

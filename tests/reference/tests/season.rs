@@ -130,6 +130,21 @@ fn lengths_follow_the_arrangement_in_force() {
     assert_eq!(with_events(3, &events), "0 0 0\n1 5 0\n2 1 0\n3 4 0 0302\n");
 }
 
+/// (1,2,3,3), message 07, no slack: each reading is of the lower trap.
+#[test]
+fn a_loose_arrangement() {
+    let opening = "0005 0001 0002 0003 0003 0001, 0001 07,";
+    let events = "03 02 FF, 04 00000003, 04 00000006, 02 00000005 00000002, 04 00000006";
+    assert_eq!(
+        run_hex(&format!("{opening} 0000 0005 {events}")),
+        "0 0 0\n1 3 0\n2 4 0 07\n3 4 0 f1\n4 2 0\n5 4 0 07\n"
+    );
+    assert_eq!(
+        run_hex(&format!("{opening} 0001 01 0005 {events}")),
+        "0 0 6\n"
+    );
+}
+
 #[test]
 fn a_new_count_does_not_wrap() {
     let mut input = bytes("0005 0001 0001 0001 0001 0400 0400");

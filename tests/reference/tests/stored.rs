@@ -30,12 +30,15 @@ fn test_season(folder: &str) -> usize {
 #[test]
 fn calls() {
     let calls = include_str!("../../vectors/calls.txt");
-    assert_eq!(try_all(calls, &Reference), Ok(700));
+    assert_eq!(try_all(calls, &Reference), Ok(699));
+    let loose = include_str!("../../vectors/2026-01-calls.txt");
+    assert_eq!(try_all(loose, &Reference), Ok(400));
 }
 
 #[test]
 fn season_files() {
-    assert_eq!(test_season("tests/vectors/season"), 229);
+    assert_eq!(test_season("tests/vectors/season"), 222);
+    assert_eq!(test_season("tests/vectors/2026-01-season"), 120);
 }
 
 #[test]

@@ -17,6 +17,13 @@ use std::io;
 use std::path::{Path, PathBuf};
 use std::process::ExitCode;
 
+/// The folders of stored files, each with its family.
+const STORED: [(&str, &str); 3] = [
+    ("examples", "examples"),
+    ("vectors", "tests/vectors/season"),
+    ("2026-01", "tests/vectors/2026-01-season"),
+];
+
 const DEFAULT_FOLDER: &str = "target/season_corpus";
 /// The count of random files if none is asked for.
 const DEFAULT_COUNT: u64 = 3000;
@@ -50,12 +57,9 @@ fn run(given: &Arguments) -> io::Result<bool> {
         judge.compare(name, input, output, &found)
     }));
     let repository = Path::new(env!("CARGO_MANIFEST_DIR")).join("../..");
-    files::stored(&mut store, "examples", &repository.join("examples"))?;
-    files::stored(
-        &mut store,
-        "vectors",
-        &repository.join("tests/vectors/season"),
-    )?;
+    for (family, folder) in STORED {
+        files::stored(&mut store, family, &repository.join(folder))?;
+    }
     corpus::make(&mut store, given.seed, given.count)?;
     let mut tally = store.tally;
     files::slow(&program, &judge, &mut tally)?;
