@@ -3,7 +3,8 @@
 
 use crate::corpus::draft::{all, change, damage, reading, rearrangement, rebuild, Counts, Draft};
 use crate::corpus::rng::Rng;
-use crate::corpus::script::{shape_of, Script};
+use crate::corpus::script::Script;
+use crate::corpus::shapes::{any_shape, looser, shapes, tight, tight_shapes};
 use crate::corpus::store::Store;
 use crate::{Arrangement, Shape};
 use std::io;
@@ -13,7 +14,9 @@ pub fn write(store: &mut Store, rng: &mut Rng) -> io::Result<()> {
     truncated(store, rng)?;
     first_counts(store)?;
     wrong_counts(store, rng)?;
+    slack_lengths(store, rng)?;
     edges(store, rng)?;
+    one_short(store, rng)?;
     refused_setups(store, rng)?;
     corners(store, rng)?;
     shape_walks(store, rng)?;
@@ -25,6 +28,7 @@ pub fn write(store: &mut Store, rng: &mut Rng) -> io::Result<()> {
     leftovers(store, rng)?;
     new_counts(store, rng)?;
     copied_damage(store, rng)?;
+    spare_damage(store, rng)?;
     growth(store, rng)
 }
 
@@ -82,9 +86,10 @@ fn small_file(rng: &mut Rng, now: Arrangement, to: Shape) -> Vec<u8> {
 /// Every truncation of some small files.
 fn truncated(store: &mut Store, rng: &mut Rng) -> io::Result<()> {
     let files = [
-        (Arrangement::new(2, 4, 3, 5, 2), shape_of(1, 2, 3)),
-        (Arrangement::new(1, 1, 2, 2, 1), shape_of(2, 2, 4)),
-        (Arrangement::new(1, 2, 1, 2, 3), shape_of(2, 3, 3)),
+        (Arrangement::new(2, 4, 3, 5, 2), tight(1, 2, 3)),
+        (Arrangement::new(1, 1, 2, 2, 1), tight(2, 2, 4)),
+        (Arrangement::new(1, 2, 1, 2, 3), tight(2, 3, 3)),
+        (Arrangement::new(2, 4, 4, 5, 2), Shape::new(1, 3, 2, 3)),
     ];
     for (now, to) in files {
         let bytes = small_file(rng, now, to);
@@ -145,6 +150,24 @@ fn near(message: u64, slack: u64) -> Vec<(u64, u64)> {
     pairs
 }
 
+/// The slack has n - w parts, not r - k: both lengths, and those about them.
+fn slack_lengths(store: &mut Store, rng: &mut Rng) -> io::Result<()> {
+    for n in [3, 4, 7, 32] {
+        for shape in [tight(1, n, n), tight(2, n - 1, n), tight(1, 2, n)] {
+            for shape in looser(shape).take(4) {
+                let b = rng.range(1, 3);
+                for parts in [shape.n - shape.w, shape.r - shape.k] {
+                    for slack in [(parts * b).saturating_sub(1), parts * b, parts * b + 1] {
+                        let draft = opening(rng, shape.with(b), shape.k * b, slack);
+                        store.put("slack", &draft.bytes())?;
+                    }
+                }
+            }
+        }
+    }
+    Ok(())
+}
+
 /// A file with a set-up of any numbers, and parts of these lengths.
 fn opening(rng: &mut Rng, a: Arrangement, message: u64, slack: u64) -> Draft {
     Draft {
@@ -155,7 +178,8 @@ fn opening(rng: &mut Rng, a: Arrangement, message: u64, slack: u64) -> Draft {
     }
 }
 
-/// The edges that document 01 lists, as set-ups and as rearrangements.
+/// The edges that documents 01 and 02 list and the loosest shape, as set-ups and
+/// as rearrangements.
 fn edges(store: &mut Store, rng: &mut Rng) -> io::Result<()> {
     let shapes = [
         Shape::new(1, 1, 32, 32),
@@ -166,10 +190,11 @@ fn edges(store: &mut Store, rng: &mut Rng) -> io::Result<()> {
         Shape::new(3, 2, 3, 4),
         Shape::new(3, 3, 3, 4),
         Shape::new(1, 2, 3, 3),
+        Shape::new(1, 32, 32, 32),
     ];
     for shape in shapes {
         for b in [0, 1, 3, 1024, 1025] {
-            let slack = shape.r.saturating_sub(shape.k) * b;
+            let slack = (shape.n - shape.w) * b;
             let draft = opening(rng, shape.with(b), shape.k * b, slack);
             store.put("edges", &draft.bytes())?;
         }
@@ -180,6 +205,28 @@ fn edges(store: &mut Store, rng: &mut Rng) -> io::Result<()> {
         script.push(reading(3));
         script.push(reading(1));
         store.put("edges", &script.draft.bytes())?;
+    }
+    Ok(())
+}
+
+/// For each n shapes with r + w = k + n - 1, as set-ups and as rearrangements,
+/// with all else right.
+fn one_short(store: &mut Store, rng: &mut Rng) -> io::Result<()> {
+    for n in 2..=32u64 {
+        let half = n.div_ceil(2);
+        for (k, w) in [(1, 1), (1, half), (half, half), (1, n - 1), (n - 1, n - 1)] {
+            let least = tight(k, w, n);
+            let r = least.r - 1;
+            let short = Shape { r, ..least };
+            let mut draft = opening(rng, short.with(2), k * 2, (n - w) * 2);
+            draft.events = vec![reading(all(r))];
+            store.put("short", &draft.bytes())?;
+            let mut script = Script::new(rng, least.with(2));
+            let message = script.rng.bytes(k * 2);
+            script.push(rearrangement(all(least.r), &short, all(w), &message));
+            script.read_some_windows(2);
+            store.put_script("short", &script)?;
+        }
     }
     Ok(())
 }
@@ -216,7 +263,10 @@ fn refused_arrangements() -> Vec<Arrangement> {
         [1, 1, 1, 2, 1],
         [32, 32, 32, 32, 0],
         [16, 16, 16, 32, 1],
+        [1, 16, 16, 32, 1],
+        [31, 31, 31, 32, 1],
         [1, 2, 2, 4, 0],
+        [1, 2, 2, 2, 0],
         [1, 1, 1, 1, 0],
         [1, 1, 1, 1, 1025],
         [1, 1, 1, 1, 2048],
@@ -235,7 +285,7 @@ fn refused_setups(store: &mut Store, rng: &mut Rng) -> io::Result<()> {
     for a in refused_arrangements() {
         let fitting = a.shape.k * a.b;
         let length = if fitting < 40_000 { fitting } else { 5 };
-        let slack = a.shape.r.saturating_sub(a.shape.k).min(40);
+        let slack = a.shape.n.saturating_sub(a.shape.w).min(40);
         let draft = opening(rng, a, length, slack);
         store.put("setup", &draft.bytes())?;
         store.put("setup", &opening(rng, a, 0, 0).bytes())?;
@@ -253,10 +303,15 @@ fn corners(store: &mut Store, rng: &mut Rng) -> io::Result<()> {
         let half = n.div_ceil(2);
         let corners = [(1, 1), (1, n), (n, n), (half, half), (half, n), (1, half)];
         for (k, w) in corners {
-            let b = rng.pick(&[1, 1, 2, 3, 5, 8, 17]);
-            let mut script = Script::new(rng, shape_of(k, w, n).with(b));
-            history(&mut script);
-            store.put_script("corner", &script)?;
+            let least = tight(k, w, n);
+            let mut corners = vec![least];
+            corners.extend(looser(least).last());
+            for shape in corners {
+                let b = rng.pick(&[1, 1, 2, 3, 5, 8, 17]);
+                let mut script = Script::new(rng, shape.with(b));
+                history(&mut script);
+                store.put_script("corner", &script)?;
+            }
         }
     }
     Ok(())
@@ -277,35 +332,43 @@ fn history(script: &mut Script) {
     script.read_some_windows(3);
 }
 
-/// For each n one file that goes through every shape of that n.
+/// So many shapes fit into one file of a walk.
+const STEPS: usize = 440;
+
+/// For each n files that go through every shape of that n.
 fn shape_walks(store: &mut Store, rng: &mut Rng) -> io::Result<()> {
     for n in 1..=32 {
         let b = if n < 20 { rng.range(1, 3) } else { 1 };
-        let mut script = Script::new(rng, shape_of(1, 1, n).with(b));
-        for k in 1..=n {
-            for w in k..=n {
-                script.rearrange_to(shape_of(k, w, n));
+        let all: Vec<Shape> = shapes(n).collect();
+        for walk in all.chunks(STEPS) {
+            let mut script = Script::new(rng, walk[0].with(b));
+            for shape in walk {
+                script.rearrange_to(*shape);
                 script.change();
                 script.read_some_windows(2);
             }
+            store.put_script("shapes", &script)?;
         }
-        store.put_script("shapes", &script)?;
     }
     Ok(())
 }
 
-/// Every shape as an opening, with a change and readings.
+/// Every tight shape as an opening, and a looser one with each where there is
+/// one, with a change and readings.
 fn shape_openings(store: &mut Store, rng: &mut Rng) -> io::Result<()> {
-    for n in 1..=32 {
-        for k in 1..=n {
-            for w in k..=n {
-                let b = rng.range(1, 3);
-                let mut script = Script::new(rng, shape_of(k, w, n).with(b));
-                script.reading();
-                script.change();
-                script.reading();
-                store.put_script("shape-setup", &script)?;
-            }
+    for least in (1..=32).flat_map(tight_shapes) {
+        let mut openings = vec![least];
+        if least.r < least.n {
+            let r = rng.range(least.r + 1, least.n);
+            openings.push(Shape { r, ..least });
+        }
+        for shape in openings {
+            let b = rng.range(1, 3);
+            let mut script = Script::new(rng, shape.with(b));
+            script.reading();
+            script.change();
+            script.reading();
+            store.put_script("shape-setup", &script)?;
         }
     }
     Ok(())
@@ -314,17 +377,22 @@ fn shape_openings(store: &mut Store, rng: &mut Rng) -> io::Result<()> {
 /// Some shapes with every choice of each size.
 fn all_choices(store: &mut Store, rng: &mut Rng) -> io::Result<()> {
     let shapes = [
-        (1, 2, 3),
-        (2, 3, 4),
-        (2, 3, 5),
-        (3, 4, 6),
-        (1, 4, 6),
-        (2, 5, 7),
-        (4, 4, 8),
+        tight(1, 2, 3),
+        tight(2, 3, 4),
+        tight(2, 3, 5),
+        tight(3, 4, 6),
+        tight(1, 4, 6),
+        tight(2, 5, 7),
+        tight(4, 4, 8),
+        Shape::new(1, 2, 3, 3),
+        Shape::new(1, 3, 3, 4),
+        Shape::new(2, 4, 4, 5),
+        Shape::new(2, 5, 4, 6),
+        Shape::new(1, 3, 6, 7),
     ];
-    for (k, w, n) in shapes {
-        let mut script = Script::new(rng, shape_of(k, w, n).with(2));
-        for choice in 0..1 << n {
+    for shape in shapes {
+        let mut script = Script::new(rng, shape.with(2));
+        for choice in 0..1 << shape.n {
             choice_events(&mut script, choice);
         }
         store.put_script("choices", &script)?;
@@ -353,14 +421,17 @@ fn choice_events(script: &mut Script, choice: u32) {
 /// Every refusal of each kind of event, between readings that show that
 /// nothing was altered.
 fn refusals(store: &mut Store, rng: &mut Rng) -> io::Result<()> {
-    for (k, w, n, b) in [
-        (1, 2, 3, 1),
-        (2, 3, 5, 2),
-        (3, 9, 9, 4),
-        (5, 20, 31, 1),
-        (4, 30, 32, 2),
+    for (shape, b) in [
+        (tight(1, 2, 3), 1),
+        (tight(2, 3, 5), 2),
+        (tight(3, 9, 9), 4),
+        (tight(5, 20, 31), 1),
+        (tight(4, 30, 32), 2),
+        (Shape::new(1, 2, 3, 3), 1),
+        (Shape::new(2, 4, 4, 5), 3),
+        (Shape::new(4, 20, 30, 32), 1),
     ] {
-        let mut script = Script::new(rng, shape_of(k, w, n).with(b));
+        let mut script = Script::new(rng, shape.with(b));
         for event in refused_events(&mut script) {
             script.push(event);
             script.read_some_windows(1);
@@ -433,8 +504,10 @@ fn refused_shapes() -> Vec<Shape> {
         [2, 2, 1, 2],
         [33, 32, 32, 32],
         [1, 1, 1, 2],
-        [1, 2, 2, 2],
-        [2, 3, 3, 3],
+        [1, 2, 2, 4],
+        [3, 3, 3, 4],
+        [1, 16, 16, 32],
+        [31, 31, 31, 32],
         [2, 2, 2, 32],
     ];
     let built = |[k, r, w, n]: [u64; 4]| Shape::new(k, r, w, n);
@@ -445,7 +518,7 @@ fn refused_shapes() -> Vec<Shape> {
 fn question_order(store: &mut Store, rng: &mut Rng) -> io::Result<()> {
     let mut script = Script::new(rng, Arrangement::new(2, 4, 3, 5, 2));
     let d = script.rng.bytes(4);
-    let right = shape_of(2, 3, 5);
+    let right = tight(2, 3, 5);
     let events = vec![
         change(0xFF, &d),
         reading(0xFFFF_FFFF),
@@ -464,8 +537,8 @@ fn question_order(store: &mut Store, rng: &mut Rng) -> io::Result<()> {
         rearrangement(0x2F, &right, 0x01, &d),
         rearrangement(0x07, &right, 0x07, &d),
         rearrangement(0x0F, &right, 0x0F, &d),
-        rearrangement(0x0F, &shape_of(2, 3, 3), 0x0E, &d),
-        rearrangement(0x0F, &shape_of(2, 3, 6), 0x31, &d),
+        rearrangement(0x0F, &tight(2, 3, 3), 0x0E, &d),
+        rearrangement(0x0F, &tight(2, 3, 6), 0x31, &d),
         reading(0x0F),
         reading(0x17),
         reading(0x1F),
@@ -508,7 +581,7 @@ fn leftovers(store: &mut Store, rng: &mut Rng) -> io::Result<()> {
             store.put("leftover", &bytes)?;
         }
     }
-    let refused = opening(rng, Arrangement::new(1, 2, 3, 3, 1), 1, 1);
+    let refused = opening(rng, Arrangement::new(3, 3, 3, 4, 1), 3, 1);
     let bytes = [refused.bytes(), vec![1, 2, 3]].concat();
     store.put("leftover", &bytes)?;
     Ok(())
@@ -550,10 +623,13 @@ fn new_counts(store: &mut Store, rng: &mut Rng) -> io::Result<()> {
 /// changes through them.
 fn copied_damage(store: &mut Store, rng: &mut Rng) -> io::Result<()> {
     let moves = [
-        (shape_of(2, 3, 6), shape_of(2, 3, 6), 0b00_0111),
-        (shape_of(2, 4, 6), shape_of(1, 2, 5), 0b00_0011),
-        (shape_of(2, 4, 6), shape_of(3, 4, 8), 0b1000_0111),
-        (shape_of(1, 3, 6), shape_of(2, 2, 9), 0b00_0011),
+        (tight(2, 3, 6), tight(2, 3, 6), 0b00_0111),
+        (tight(2, 4, 6), tight(1, 2, 5), 0b00_0011),
+        (tight(2, 4, 6), tight(3, 4, 8), 0b1000_0111),
+        (tight(1, 3, 6), tight(2, 2, 9), 0b00_0011),
+        (tight(2, 4, 6), Shape::new(1, 4, 3, 6), 0b01_0011),
+        (Shape::new(1, 4, 5, 6), tight(2, 3, 6), 0b10_0101),
+        (Shape::new(2, 5, 4, 6), Shape::new(1, 5, 3, 7), 0b110_0001),
     ];
     for (from, to, write) in moves {
         for trap in 1..=from.n {
@@ -573,17 +649,70 @@ fn copied_damage(store: &mut Store, rng: &mut Rng) -> io::Result<()> {
     Ok(())
 }
 
+/// Loose shapes with damage in one of R's r - q traps that are not used, before
+/// a reading, a rebuild and rearrangements through R.
+fn spare_damage(store: &mut Store, rng: &mut Rng) -> io::Result<()> {
+    let shapes = [
+        Shape::new(1, 2, 3, 3),
+        Shape::new(1, 3, 3, 4),
+        Shape::new(2, 4, 4, 5),
+        Shape::new(2, 5, 4, 6),
+        Shape::new(3, 8, 7, 9),
+        Shape::new(2, 16, 16, 17),
+        Shape::new(5, 20, 24, 31),
+        Shape::new(1, 32, 32, 32),
+        Shape::new(9, 30, 20, 32),
+    ];
+    for shape in shapes {
+        for _ in 0..4 {
+            let mut script = Script::new(rng, shape.with(2));
+            for _ in 0..3 {
+                through_spare_damage(&mut script);
+            }
+            store.put_script("spare", &script)?;
+        }
+    }
+    Ok(())
+}
+
+/// One such damage, and what is done through R after it: the record goes to a
+/// loose shape or a tight one, and back.
+fn through_spare_damage(script: &mut Script) {
+    let shape = script.now.shape;
+    let read = script.rng.choose(all(shape.n), shape.r);
+    let spare = read & !script.lowest(read);
+    let trap = script.rng.choose(spare, 1);
+    script.damage_to(u64::from(trap.trailing_zeros()) + 1);
+    script.read(read);
+    script.change();
+    script.read(read);
+    let lost = script.rng.word() as u32 & all(shape.n) & !read;
+    script.rebuild_from(read, lost);
+    script.read_windows();
+    let to = if script.rng.chance(50) {
+        tight(shape.k, shape.w, shape.n)
+    } else {
+        any_shape(script.rng, 32)
+    };
+    let write = script.rng.choose(all(to.n), to.w);
+    script.rearrange_through(read, to, write);
+    script.read_windows();
+    script.rearrange_to(shape);
+    script.read_some_windows(2);
+}
+
 /// Growth from one trap to 32 and back, by small steps and at once.
 fn growth(store: &mut Store, rng: &mut Rng) -> io::Result<()> {
     for step in [1, 5, 31] {
         for slack in [0, 1, 3] {
-            let mut script = Script::new(rng, shape_of(1, 1, 1).with(2));
+            let mut script = Script::new(rng, tight(1, 1, 1).with(2));
             let up = (1..=32).step_by(step);
             let down = (1..=32).rev().step_by(step);
             for n in up.chain(down) {
                 let l = slack.min(n - 1);
                 let k = script.rng.range(1, n - l);
-                script.rearrange_to(shape_of(k, n - l, n));
+                let r = script.rng.range(k + l, n);
+                script.rearrange_to(Shape::new(k, r, n - l, n));
                 script.read_some_windows(3);
                 script.change();
                 script.read_some_windows(2);

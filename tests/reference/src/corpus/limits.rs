@@ -2,7 +2,8 @@
 
 use crate::corpus::draft::{all, change, damage, reading, rearrangement, rebuild, Counts, Draft};
 use crate::corpus::rng::Rng;
-use crate::corpus::script::{shape_of, Script};
+use crate::corpus::script::Script;
+use crate::corpus::shapes::{any_shape, tight};
 use crate::corpus::store::Store;
 use crate::season::LIMIT;
 use crate::{Arrangement, Shape};
@@ -121,10 +122,10 @@ fn cut_openings(store: &mut Store, rng: &mut Rng) -> io::Result<()> {
 
 /// As many events as a file can hold, of the shortest kinds.
 fn many_events(store: &mut Store, rng: &mut Rng) -> io::Result<()> {
-    let mut readings = Script::new(rng, shape_of(1, 1, 1).with(1)).draft;
+    let mut readings = Script::new(rng, tight(1, 1, 1).with(1)).draft;
     readings.events = vec![reading(1); (LIMIT - readings.length()) / 5];
     store.put("many", &readings.bytes())?;
-    let mut damages = Script::new(rng, shape_of(1, 1, 1).with(1)).draft;
+    let mut damages = Script::new(rng, tight(1, 1, 1).with(1)).draft;
     let count = (LIMIT - damages.length()) / 3;
     damages.events = (0..count)
         .map(|i| damage(i as u64 % 3, &[i as u8]))
@@ -138,29 +139,33 @@ fn many_events(store: &mut Store, rng: &mut Rng) -> io::Result<()> {
     Ok(())
 }
 
-/// Shapes with large blocks that fit: (k, w, n, B).
-const LARGE: [(u64, u64, u64, u64); 12] = [
-    (1, 1, 1, 1024),
-    (1, 1, 32, 1024),
-    (1, 32, 32, 1024),
-    (32, 32, 32, 1022),
-    (32, 32, 32, 1),
-    (16, 16, 32, 1024),
-    (16, 24, 32, 1000),
-    (8, 16, 24, 1024),
-    (2, 3, 5, 1023),
-    (3, 31, 32, 777),
-    (31, 31, 32, 512),
-    (7, 20, 32, 1024),
+/// Shapes with large blocks that fit: (k, r, w, n, B).
+const LARGE: [(u64, u64, u64, u64, u64); 16] = [
+    (1, 1, 1, 1, 1024),
+    (1, 32, 1, 32, 1024),
+    (1, 1, 32, 32, 1024),
+    (1, 32, 32, 32, 1024),
+    (32, 32, 32, 32, 1022),
+    (32, 32, 32, 32, 1),
+    (16, 32, 16, 32, 1024),
+    (16, 24, 24, 32, 1000),
+    (16, 28, 24, 32, 1000),
+    (8, 16, 16, 24, 1024),
+    (2, 4, 3, 5, 1023),
+    (2, 4, 4, 5, 1023),
+    (3, 4, 31, 32, 777),
+    (31, 32, 31, 32, 512),
+    (7, 19, 20, 32, 1024),
+    (7, 31, 20, 32, 1024),
 ];
 
 fn large_blocks(store: &mut Store, rng: &mut Rng) -> io::Result<()> {
-    for (k, w, n, b) in LARGE {
-        let mut script = Script::new(rng, shape_of(k, w, n).with(b));
+    for (k, r, w, n, b) in LARGE {
+        let mut script = Script::new(rng, Arrangement::new(k, r, w, n, b));
         large_events(&mut script);
         store.put_script("large", &script)?;
     }
-    let mut script = Script::new(rng, shape_of(32, 32, 32).with(1024));
+    let mut script = Script::new(rng, tight(32, 32, 32).with(1024));
     script.read_some_windows(3);
     script.change();
     store.put("large-cut", &script.draft.bytes())?;
@@ -189,16 +194,20 @@ fn large_events(script: &mut Script) {
 
 /// A rearrangement to a shape with no larger n.
 fn rearrange_within(script: &mut Script) {
-    let n = script.rng.range(1, script.now.shape.n);
-    let k = script.rng.range(1, n);
-    let w = script.rng.range(k, n);
-    script.rearrange_to(shape_of(k, w, n));
+    let to = any_shape(script.rng, script.now.shape.n);
+    script.rearrange_to(to);
 }
 
 /// Many damages and rebuilds of large blocks.
 fn large_damage(store: &mut Store, rng: &mut Rng) -> io::Result<()> {
-    for (k, w, n) in [(1, 20, 32), (2, 2, 8), (4, 28, 32)] {
-        let mut script = Script::new(rng, shape_of(k, w, n).with(1024));
+    for shape in [
+        tight(1, 20, 32),
+        tight(2, 2, 8),
+        tight(4, 28, 32),
+        Shape::new(1, 20, 20, 32),
+        Shape::new(4, 16, 28, 32),
+    ] {
+        let mut script = Script::new(rng, shape.with(1024));
         while script.draft.length() < 50_000 {
             script.damage();
             script.read_some_windows(1);

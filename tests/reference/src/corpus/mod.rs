@@ -7,13 +7,14 @@ mod limits;
 mod random;
 mod rng;
 mod script;
+mod shapes;
 mod store;
 mod tally;
 
 pub use fixed::example;
 pub use limits::file_of_length;
 pub use rng::Rng;
-pub use script::{any_shape, shape_of};
+pub use shapes::{any_shape, shapes, tight};
 pub use store::Store;
 pub use tally::Tally;
 

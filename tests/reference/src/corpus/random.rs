@@ -2,7 +2,8 @@
 
 use crate::corpus::draft::{Counts, Draft};
 use crate::corpus::rng::Rng;
-use crate::corpus::script::{any_shape, wrong_shape, Script};
+use crate::corpus::script::Script;
+use crate::corpus::shapes::{any_shape, wrong_shape};
 use crate::corpus::store::Store;
 use crate::Arrangement;
 use std::io;

@@ -1,9 +1,12 @@
 //! Histories: a season file is written event by event, with a ledger beside it
-//! as document 01's ledger machine has it. Where the ledger tells what a reading
-//! must give, that is promised, and tested when the file's output is made.
+//! as document 01's ledger machine has it. Where it is settled that a reading
+//! gives the ledger's bytes, that is promised, and tested when the file's output
+//! is made. The ledger machine settles it where all r traps of each R were
+//! undamaged; by the calls' definitions the q lowest of each R are enough.
 
 use crate::corpus::draft::{self, all, Draft};
 use crate::corpus::rng::Rng;
+use crate::corpus::shapes::{any_shape, wrong_shape};
 use crate::{Arrangement, Shape};
 
 /// The message that the event of this number must read.
@@ -16,21 +19,8 @@ pub struct Script<'a> {
     pub promises: Vec<Promise>,
     ledger: Vec<u8>,
     damaged: u32,
-    /// False once a rebuild or rearrangement went through damaged traps.
+    /// False once a rebuild or rearrangement used damaged traps.
     sound: bool,
-}
-
-/// A shape that passes the gate.
-pub fn any_shape(rng: &mut Rng, most: u64) -> Shape {
-    let n = rng.range(1, most);
-    let k = rng.range(1, n);
-    let w = rng.range(k, n);
-    shape_of(k, w, n)
-}
-
-/// The shape with these k, w and n; the fourth question settles r.
-pub fn shape_of(k: u64, w: u64, n: u64) -> Shape {
-    Shape::new(k, k + n - w, w, n)
 }
 
 impl<'a> Script<'a> {
@@ -61,6 +51,19 @@ impl<'a> Script<'a> {
     /// A choice of so many traps of 1..n.
     fn any(&mut self, size: u64) -> u32 {
         self.rng.choose(all(self.now.shape.n), size)
+    }
+
+    /// The q lowest traps of a choice.
+    pub fn lowest(&self, choice: u32) -> u32 {
+        let q = self.now.shape.q();
+        let below = |bit: u32| choice & ((1 << bit) - 1);
+        let used = |bit: &u32| u64::from(below(*bit).count_ones()) < q;
+        choice & (0..32).filter(used).fold(0, |bits, bit| bits | 1 << bit)
+    }
+
+    /// Is every trap that this R brings into use undamaged?
+    fn untouched(&self, read: u32) -> bool {
+        self.lowest(read) & self.damaged == 0
     }
 
     /// R for a rebuild or rearrangement: undamaged if there are enough.
@@ -111,7 +114,7 @@ impl<'a> Script<'a> {
     }
 
     pub fn rebuild_from(&mut self, read: u32, lost: u32) {
-        self.sound &= read & self.damaged == 0;
+        self.sound &= self.untouched(read);
         self.damaged &= !lost;
         self.push(draft::rebuild(read, lost));
     }
@@ -128,14 +131,14 @@ impl<'a> Script<'a> {
 
     pub fn read(&mut self, read: u32) {
         self.push(draft::reading(read));
-        if self.sound && read & self.damaged == 0 {
+        if self.sound && self.untouched(read) {
             let promise = (self.draft.events.len(), self.ledger.clone());
             self.promises.push(promise);
         }
     }
 
     /// Readings through r neighbours, starting at each trap in turn, so that
-    /// every block has a part in some line of the output.
+    /// every block that a reading can use has a part in some line of the output.
     pub fn read_windows(&mut self) {
         let Shape { r, n, .. } = self.now.shape;
         for start in 0..n {
@@ -168,7 +171,7 @@ impl<'a> Script<'a> {
     pub fn rearrange_through(&mut self, read: u32, to: Shape, write: u32) {
         let message = self.rng.bytes(to.k * self.now.b);
         self.push(draft::rearrangement(read, &to, write, &message));
-        self.sound &= read & self.damaged == 0;
+        self.sound &= self.untouched(read);
         self.damaged &= !write & all(self.now.shape.n) & all(to.n);
         self.ledger = message;
         self.now = to.with(self.now.b);
@@ -255,22 +258,5 @@ impl<'a> Script<'a> {
         };
         let message = self.rng.bytes(to.k * self.now.b);
         draft::rearrangement(read, &to, write, &message)
-    }
-}
-
-/// A shape that questions 11 to 14 refuse.
-pub fn wrong_shape(rng: &mut Rng, good: Shape) -> Shape {
-    let Shape { k, r, w, n } = good;
-    match rng.below(9) {
-        0 => Shape::new(k, r, w, 0),
-        1 => Shape::new(k, r, w, rng.range(33, 65_535)),
-        2 => Shape::new(k, n + 1, w, n),
-        3 => Shape::new(k, r, rng.range(n + 1, 65_535), n),
-        4 => Shape::new(0, r, w, n),
-        5 => Shape::new(r + 1, r, n, n),
-        6 => Shape::new(w + 1, n, w, n),
-        7 if r < n => Shape::new(k, r + 1, w, n),
-        _ if k < r && k < w => Shape::new(k + 1, r, w, n),
-        _ => Shape::new(0, 0, 0, n),
     }
 }
