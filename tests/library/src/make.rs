@@ -1,8 +1,9 @@
 //! Cases that are accepted, and ways to spoil them.
 
 use reference::cases::Case;
+use reference::corpus;
 use reference::corpus::draft::all;
-use reference::corpus::{any_shape, shape_of, Rng};
+use reference::corpus::{any_shape, Rng};
 use reference::{setup, Arrangement, Shape};
 
 /// The calls that are given an arrangement.
@@ -42,15 +43,9 @@ impl Call {
     }
 }
 
-/// All shapes with n up to this.
-pub fn shapes(most: u64) -> Vec<Shape> {
-    let mut shapes = Vec::new();
-    for n in 1..=most {
-        for k in 1..=n {
-            shapes.extend((k..=n).map(|w| shape_of(k, w, n)));
-        }
-    }
-    shapes
+/// All shapes with n up to this, tight and loose.
+pub fn shapes(most: u64) -> impl Iterator<Item = Shape> {
+    (1..=most).flat_map(corpus::shapes)
 }
 
 /// Any shape, mostly with small blocks.
@@ -70,7 +65,7 @@ pub fn right(rng: &mut Rng, call: Call, a: Arrangement) -> Case {
         Call::Setup => Case::Setup {
             a,
             message: rng.bytes(k * b),
-            slack: rng.bytes((r - k) * b),
+            slack: rng.bytes(shape.l() * b),
             record: rng.bytes(n * b),
         },
         Call::Reading => Case::Reading {

@@ -2,7 +2,7 @@
 
 use library::{agree, any_arrangement, right, shapes, spoil, Answers, Call};
 use reference::cases::Case;
-use reference::corpus::{shape_of, Rng};
+use reference::corpus::{tight, Rng};
 use reference::Arrangement;
 
 /// Cases of one call, of which most have one or two arguments altered.
@@ -60,19 +60,21 @@ fn random_views() {
     random(Call::View, 108);
 }
 
-/// Every shape there is, so also k = r, k = w, w = n, r = n and n = 32.
+/// Every shape there is, tight and loose, so also k = r, k = w, w = n, r = n and
+/// n = 32.
 #[test]
 fn every_shape() {
     let mut rng = Rng::new(201);
-    let shapes = shapes(32);
-    assert_eq!(shapes.len(), 5984);
-    for shape in shapes {
+    let mut count = 0;
+    for shape in shapes(32) {
         for call in Call::ALL {
             let b = rng.range(1, 3);
             let case = right(&mut rng, call, shape.with(b));
             assert_eq!(agree(&case), 0);
         }
+        count += 1;
     }
+    assert_eq!(count, 52_360);
 }
 
 /// Every block size there is.
@@ -81,7 +83,7 @@ fn every_block_size() {
     let mut rng = Rng::new(202);
     for b in 1..=1024 {
         for call in Call::ALL {
-            let case = right(&mut rng, call, shape_of(2, 3, 4).with(b));
+            let case = right(&mut rng, call, tight(2, 3, 4).with(b));
             assert_eq!(agree(&case), 0);
         }
     }
@@ -110,8 +112,8 @@ fn hostile_numbers() {
             ([4, 5, 3, 5, 2], 3),
             ([most, 4, 3, 5, 2], 3),
             ([1, 0, 5, 5, 2], 3),
-            ([2, 4, 4, 5, 2], 4),
-            ([1, 4, 3, 5, 2], 4),
+            ([2, 3, 3, 5, 2], 4),
+            ([3, 4, 3, 5, 2], 4),
             ([2, 4, 3, 5, 0], 5),
             ([2, 4, 3, 5, 1025], 5),
             ([2, 4, 3, 5, most], 5),
@@ -145,7 +147,7 @@ fn set_arrangement(case: &mut Case, to: Arrangement) {
 fn every_view() {
     let mut rng = Rng::new(204);
     for n in 1..=32 {
-        let a = shape_of(1, 1, n).with(2);
+        let a = tight(1, 1, n).with(2);
         let record = rng.bytes(2 * n);
         for trap in 0..=255 {
             let record = record.clone();

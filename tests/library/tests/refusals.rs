@@ -85,7 +85,7 @@ fn refusals() -> Vec<Refusal> {
         refused(params(1, 2, 2, 33, 1)),
         refused(params(1, 4, 2, 3, 1)),
         refused(params(0, 2, 2, 3, 1)),
-        refused(params(1, 2, 3, 3, 1)),
+        refused(params(1, 1, 2, 3, 1)),
         refused(params(1, 2, 2, 3, 0)),
         encode(p, &[0], &[0], &mut [0; 4]).unwrap_err(),
         decode(p, &[0; 3], 0b1001, &mut [0]).unwrap_err(),
@@ -95,7 +95,7 @@ fn refusals() -> Vec<Refusal> {
         moved(1, 2, 2, 0),
         moved(1, 4, 2, 3),
         moved(3, 2, 2, 3),
-        moved(1, 2, 3, 3),
+        moved(1, 1, 2, 3),
     ]
 }
 
