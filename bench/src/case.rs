@@ -135,7 +135,7 @@ impl Case {
             sets: sets.collect(),
             turn: 0,
             message: Buffer::new(&random.bytes(k * b)),
-            slack: Buffer::new(&random.bytes((r - k) * b)),
+            slack: Buffer::new(&random.bytes((n - w) * b)),
             codeword: Buffer::new(&random.bytes(n * b)),
             out: Buffer::new(&random.bytes(out)),
         }

@@ -73,6 +73,12 @@ fn outside(set: u32, n: usize) -> u32 {
     !set & u32::MAX >> (32 - n)
 }
 
+/// How many parts there are, message and slack; of the nodes to read the q lowest
+/// are used.
+fn working(p: Params) -> usize {
+    p.k + p.n - p.w
+}
+
 /// Where the block of a node starts.
 fn start(node: u8, b: usize) -> usize {
     (usize::from(node) - 1) * b
@@ -101,7 +107,8 @@ fn list_blocks_mut(codeword: *mut [u8], set: u32, b: usize, targets: &mut [*mut 
     }
 }
 
-/// A row for each node of the set: the powers 1 to `count` of its point.
+/// A row for each node of the set, from the lowest, as far as there is room: the
+/// powers 1 to `count` of its point.
 fn powers<P: Peer>(peer: &P, set: u32, count: usize, out: &mut [P::Symbol]) {
     for (row, node) in out.chunks_exact_mut(count).zip(nodes(set)) {
         let point = P::Symbol::from(node);
@@ -180,35 +187,36 @@ impl<P: Peer> Calls<P> {
         }
     }
 
-    /// The inverse of the powers 1 to r of the points of r nodes.
-    fn invert_powers(&mut self, set: u32, r: usize) {
-        let square = &mut self.square[..r * r];
-        powers(&self.peer, set, r, square);
-        self.peer.invert(r, square, &mut self.inverse[..r * r]);
+    /// The inverse of the powers 1 to q of the points of the q lowest nodes.
+    fn invert_powers(&mut self, set: u32, q: usize) {
+        let square = &mut self.square[..q * q];
+        powers(&self.peer, set, q, square);
+        self.peer.invert(q, square, &mut self.inverse[..q * q]);
     }
 
-    /// What takes the blocks of `from` to those of `to`: rows of r coefficients.
-    fn carry(&mut self, r: usize, from: u32, to: u32) -> usize {
-        self.invert_powers(from, r);
+    /// What takes the q lowest blocks of `from` to those of `to`: rows of q
+    /// coefficients.
+    fn carry(&mut self, q: usize, from: u32, to: u32) -> usize {
+        self.invert_powers(from, q);
         let count = to.count_ones() as usize;
-        let wanted = &mut self.wanted[..count * r];
-        powers(&self.peer, to, r, wanted);
-        let coeffs = &mut self.coeffs[..count * r];
+        let wanted = &mut self.wanted[..count * q];
+        powers(&self.peer, to, q, wanted);
+        let coeffs = &mut self.coeffs[..count * q];
         coeffs.fill(P::Symbol::default());
-        let (x, y) = (whole(wanted, r), whole(&self.inverse, r));
-        add_product(&self.peer, count, x, y, coeffs, r);
+        let (x, y) = (whole(wanted, q), whole(&self.inverse, q));
+        add_product(&self.peer, count, x, y, coeffs, q);
         count
     }
 
     /// The powers of the points of the l nodes outside `to` and of the w in it,
     /// and the inverse of the slack's columns of the former.
     fn complete(&mut self, p: Params, to: u32) {
-        let Params { k, r, w, n, .. } = p;
-        let l = r - k;
-        powers(&self.peer, outside(to, n), r, &mut self.known[..l * r]);
-        powers(&self.peer, to, r, &mut self.wanted[..w * r]);
+        let Params { k, w, n, .. } = p;
+        let (q, l) = (working(p), n - w);
+        powers(&self.peer, outside(to, n), q, &mut self.known[..l * q]);
+        powers(&self.peer, to, q, &mut self.wanted[..w * q]);
         for (i, row) in self.square[..l * l].chunks_exact_mut(l).enumerate() {
-            row.copy_from_slice(&self.known[i * r + k..][..l]);
+            row.copy_from_slice(&self.known[i * q + k..][..l]);
         }
         let square = &mut self.square[..l * l];
         self.peer.invert(l, square, &mut self.inverse[..l * l]);
@@ -217,40 +225,42 @@ impl<P: Peer> Calls<P> {
 
 impl<P: Peer> Coder for Calls<P> {
     fn encode(&mut self, p: Params, message: &[u8], slack: &[u8], codeword: &mut [u8]) {
-        let Params { r, n, b, .. } = p;
+        let Params { n, b, .. } = p;
+        let q = working(p);
         let all = outside(0, n);
-        powers(&self.peer, all, r, &mut self.coeffs[..n * r]);
+        powers(&self.peer, all, q, &mut self.coeffs[..n * q]);
         let parts = message.chunks_exact(b).chain(slack.chunks_exact(b));
         list(parts, &mut self.sources);
         list_blocks_mut(codeword, all, b, &mut self.targets);
-        let (coeffs, sources) = (&self.coeffs[..n * r], &self.sources[..r]);
+        let (coeffs, sources) = (&self.coeffs[..n * q], &self.sources[..q]);
         // SAFETY: parts of the message and the slack, and the codeword's blocks.
         unsafe { self.peer.write(b, coeffs, sources, &self.targets[..n]) }
     }
 
     fn decode(&mut self, p: Params, codeword: &[u8], from: u32, out: &mut [u8]) {
-        let Params { k, r, b, .. } = p;
-        self.invert_powers(from, r);
+        let Params { k, b, .. } = p;
+        let q = working(p);
+        self.invert_powers(from, q);
         list_blocks(codeword, from, b, &mut self.sources);
         list_blocks_mut(out, outside(0, k), b, &mut self.targets);
-        let (coeffs, sources) = (&self.inverse[..k * r], &self.sources[..r]);
+        let (coeffs, sources) = (&self.inverse[..k * q], &self.sources[..q]);
         // SAFETY: the codeword's blocks and the message's parts.
         unsafe { self.peer.write(b, coeffs, sources, &self.targets[..k]) }
     }
 
     fn update(&mut self, p: Params, codeword: &mut [u8], change: &[u8], to: u32) {
-        let Params { k, r, w, b, .. } = p;
-        let l = r - k;
+        let Params { k, w, n, b, .. } = p;
+        let (q, l) = (working(p), n - w);
         self.complete(p, to);
         // The slack that makes the blocks outside vanish, then the blocks within.
         let share = &mut self.share[..l * k];
         share.fill(P::Symbol::default());
-        let (x, y) = (whole(&self.inverse, l), columns(&self.known, r, 0, k));
+        let (x, y) = (whole(&self.inverse, l), columns(&self.known, q, 0, k));
         add_product(&self.peer, l, x, y, share, k);
         for (i, row) in self.coeffs[..w * k].chunks_exact_mut(k).enumerate() {
-            row.copy_from_slice(&self.wanted[i * r..][..k]);
+            row.copy_from_slice(&self.wanted[i * q..][..k]);
         }
-        let (x, y) = (columns(&self.wanted, r, k, l), whole(&self.share, k));
+        let (x, y) = (columns(&self.wanted, q, k, l), whole(&self.share, k));
         add_product(&self.peer, w, x, y, &mut self.coeffs, k);
 
         list(change.chunks_exact(b), &mut self.sources);
@@ -261,12 +271,12 @@ impl<P: Peer> Coder for Calls<P> {
     }
 
     fn repair(&mut self, p: Params, codeword: &mut [u8], from: u32, lost: u32) {
-        let Params { r, b, .. } = p;
-        let count = self.carry(r, from, lost);
+        let (q, b) = (working(p), p.b);
+        let count = self.carry(q, from, lost);
         let codeword: *mut [u8] = codeword;
         list_blocks(codeword, from, b, &mut self.sources);
         list_blocks_mut(codeword, lost, b, &mut self.targets);
-        let (coeffs, sources) = (&self.coeffs[..count * r], &self.sources[..r]);
+        let (coeffs, sources) = (&self.coeffs[..count * q], &self.sources[..q]);
         // SAFETY: blocks of the codeword, `lost` being apart from `from`.
         unsafe { self.peer.write(b, coeffs, sources, &self.targets[..count]) }
     }
@@ -280,15 +290,15 @@ impl<P: Peer> Coder for Calls<P> {
         message: &[u8],
         out: &mut [u8],
     ) {
-        let Params { k, r, w, n, b } = p;
-        let l = r - k;
+        let Params { k, w, n, b, .. } = p;
+        let (q, l) = (working(p), n - w);
         // The old values outside `to`.
         let free = outside(to, n);
-        self.carry(r, from, free);
+        self.carry(q, from, free);
         list_blocks(codeword, from, b, &mut self.sources);
         let values = self.values.bytes_mut();
         list_blocks_mut(values, outside(0, l), b, &mut self.targets);
-        let (coeffs, sources) = (&self.coeffs[..l * r], &self.sources[..r]);
+        let (coeffs, sources) = (&self.coeffs[..l * q], &self.sources[..q]);
         // SAFETY: the codeword's blocks and those of a buffer of its own.
         unsafe { self.peer.write(b, coeffs, sources, &self.targets[..l]) }
 
@@ -296,20 +306,20 @@ impl<P: Peer> Coder for Calls<P> {
         self.complete(p, to);
         let gains = &mut self.share[..w * l];
         gains.fill(P::Symbol::default());
-        let (x, y) = (columns(&self.wanted, r, k, l), whole(&self.inverse, l));
+        let (x, y) = (columns(&self.wanted, q, k, l), whole(&self.inverse, l));
         add_product(&self.peer, w, x, y, gains, l);
-        for (i, row) in self.coeffs[..w * r].chunks_exact_mut(r).enumerate() {
-            row[..k].copy_from_slice(&self.wanted[i * r..][..k]);
+        for (i, row) in self.coeffs[..w * q].chunks_exact_mut(q).enumerate() {
+            row[..k].copy_from_slice(&self.wanted[i * q..][..k]);
             row[k..].copy_from_slice(&gains[i * l..][..l]);
         }
-        let (x, y) = (whole(&self.share, l), columns(&self.known, r, 0, k));
-        add_product(&self.peer, w, x, y, &mut self.coeffs, r);
+        let (x, y) = (whole(&self.share, l), columns(&self.known, q, 0, k));
+        add_product(&self.peer, w, x, y, &mut self.coeffs, q);
 
         let values = self.values.bytes()[..l * b].chunks_exact(b);
         let parts = message.chunks_exact(b).chain(values);
         list(parts, &mut self.sources);
         list_blocks_mut(out, to, b, &mut self.targets);
-        let (coeffs, sources) = (&self.coeffs[..w * r], &self.sources[..r]);
+        let (coeffs, sources) = (&self.coeffs[..w * q], &self.sources[..q]);
         // SAFETY: parts of the message, blocks of the buffer, blocks of `out`.
         unsafe { self.peer.write(b, coeffs, sources, &self.targets[..w]) }
         for node in nodes(free) {
