@@ -459,7 +459,14 @@ fn refused_events(script: &mut Script) -> Vec<Vec<u8>> {
     for wrong in wrong_choices(script, n, w) {
         events.push(rearrangement(all(r), &shape, wrong, &d));
     }
+    if shape.q() < r {
+        let few = all(shape.q());
+        events.push(reading(few));
+        events.push(rebuild(few, 0));
+        events.push(rearrangement(few, &shape, all(w), &d));
+    }
     events.push(rebuild(all(r), 1));
+    events.push(rebuild(all(r), 1 << (r - 1)));
     events.push(rebuild(all(r), all(n)));
     for trap in [0, n + 1, 33, 64, 65, 128, 129, 130, 255] {
         events.push(damage(trap, &block));

@@ -231,7 +231,11 @@ impl<'a> Script<'a> {
         match self.rng.below(3) {
             0 => draft::rebuild(self.wrong_choice(n, r), some & all(n)),
             1 if n < 32 => draft::rebuild(read, some | 1 << n),
-            _ => draft::rebuild(read, (some & all(n)) | (read & read.wrapping_neg())),
+            _ => {
+                let common = self.rng.choose(read, 1);
+                let others = if self.rng.chance(50) { some } else { !read };
+                draft::rebuild(read, (others & all(n)) | common)
+            }
         }
     }
 
