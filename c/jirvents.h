@@ -1,8 +1,9 @@
 /* Jirvents for C: records spread over storage nodes by a Read-Write erasure code. Any r of n nodes give a record's message back, and a change of the message
  * goes out to any w nodes without reading them. Link with target/staticlib/libjirvents.a, which `rt staticlib jirvents` makes, for x86-64 Linux alone.
  *
- * A code has k message parts, r nodes to read, w nodes to write and n nodes, with r + w = k + n, and b bytes in a block. A message is k parts of b bytes, a
- * slack n - w parts (any bytes), a codeword n blocks, that of node 1 first. A node set is a number of 32 bits in which node i is worth 2^(i-1).
+ * A code has k message parts, r nodes to read, w nodes to write and n nodes, with r + w at least k + n, and b bytes in a block. A message is k parts of b
+ * bytes, a slack n - w parts (any bytes), a codeword n blocks, that of node 1 first. A node set is a number of 32 bits in which node i is worth 2^(i-1). Message
+ * and slack together have q = k + n - w parts, at most r: of the r nodes that a function is given to read it uses the q lowest, whatever the others hold.
  *
  * Every number, set and length may be given. Each function puts its questions, told at its declaration, and answers 0 (JIRVENTS_SERVED), or the number of the
  * first whose answer is no; it then writes nothing, but for the column that goes with 15. The questions are put in the order of the enum below, which is not
@@ -28,7 +29,7 @@ enum {
     JIRVENTS_BAD_N = 1,          /* is n from 1 to 32? */
     JIRVENTS_BAD_R_W = 2,        /* are r and w at most n? */
     JIRVENTS_BAD_K = 3,          /* is k at least 1, at most r and at most w? */
-    JIRVENTS_BAD_SUM = 4,        /* is r + w = k + n? */
+    JIRVENTS_BAD_SUM = 4,        /* is r + w at least k + n? */
     JIRVENTS_BAD_B = 5,          /* is b from 1 to 1,024? */
     JIRVENTS_BAD_NEW_N = 11,     /* 1 for the new parameters */
     JIRVENTS_BAD_NEW_R_W = 12,   /* 2 for the new parameters */
@@ -47,7 +48,7 @@ enum {
 uint32_t jirvents_encode(size_t k, size_t r, size_t w, size_t n, size_t b, const uint8_t *message, size_t message_len, const uint8_t *slack,
                          size_t slack_len, uint8_t *codeword, size_t codeword_len);
 
-/* Reads the message (k*b bytes, to out) from the blocks of the r nodes in from, whichever bytes they hold. Questions 1 to 8. */
+/* Reads the message (k*b bytes, to out) from the blocks of the q lowest of the r nodes in from, whichever bytes they hold. Questions 1 to 8. */
 uint32_t jirvents_decode(size_t k, size_t r, size_t w, size_t n, size_t b, const uint8_t *codeword, size_t codeword_len, uint32_t from, uint8_t *out,
                          size_t out_len);
 
@@ -59,15 +60,15 @@ uint32_t jirvents_delta(size_t k, size_t r, size_t w, size_t n, size_t b, const 
 uint32_t jirvents_update(size_t k, size_t r, size_t w, size_t n, size_t b, uint8_t *codeword, size_t codeword_len, const uint8_t *change,
                          size_t change_len, uint32_t to);
 
-/* Writes the blocks of the nodes in lost anew from those of the r nodes in from. lost may have any size, also none. Questions 1 to 9. */
+/* Writes the blocks of the nodes in lost anew from those of the q lowest of the r nodes in from. lost may have any size, also none. Questions 1 to 9. */
 uint32_t jirvents_repair(size_t k, size_t r, size_t w, size_t n, size_t b, uint8_t *codeword, size_t codeword_len, uint32_t from, uint32_t lost);
 
 /* Writes the codeword (n2*b bytes, to out) of the new parameters k2, r2, w2, n2 with a new message (k2*b bytes): the blocks of the w2 nodes in to and of nodes
- * above n are new, the others are copied. The old codeword is read at the r nodes in from. Questions 1 to 5, 11 to 14, 6, 7, 8. */
+ * above n are new, the others are copied. The old codeword is read at the q lowest of the r nodes in from. Questions 1 to 5, 11 to 14, 6, 7, 8. */
 uint32_t jirvents_reconfigure(size_t k, size_t r, size_t w, size_t n, size_t b, size_t k2, size_t r2, size_t w2, size_t n2, const uint8_t *codeword,
                               size_t codeword_len, uint32_t from, uint32_t to, const uint8_t *message, size_t message_len, uint8_t *out, size_t out_len);
 
-/* Compares all blocks with what those of nodes 1 to r give: with answer 0 *node becomes 0 if they agree, else the lowest node whose block differs. That need not
+/* Compares all blocks with what those of nodes 1 to q give: with answer 0 *node becomes 0 if they agree, else the lowest node whose block differs. That need not
  * be the damaged one: with node 1 damaged it is a sound one. Questions 1 to 6. */
 uint32_t jirvents_check(size_t k, size_t r, size_t w, size_t n, size_t b, const uint8_t *codeword, size_t codeword_len, uint8_t *node);
 

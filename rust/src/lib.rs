@@ -8,7 +8,9 @@
 //!
 //! A **message** is k parts of b bytes, a **slack** n - w parts (any bytes), a
 //! **codeword** n blocks, that of node 1 first. A **node set** is a `u32` in
-//! which node i is worth 2^(i-1). Every number, set and length may be given:
+//! which node i is worth 2^(i-1). Message and slack together have q = k + n - w
+//! parts, at most r: of the r nodes that a call is given to read it uses the q
+//! lowest, whatever the others hold. Every number, set and length may be given:
 //! each call puts its questions, in the order of [`QUESTIONS`], and is refused
 //! by the first that is answered no. A refused call writes nothing.
 //!
@@ -45,7 +47,7 @@
 use core::error::Error;
 use core::fmt;
 
-/// The parameters of a code, with r + w = k + n.
+/// The parameters of a code, with r + w at least k + n.
 #[derive(Clone, Copy, Debug, PartialEq, Eq)]
 pub struct Params {
     /// Message parts.
@@ -80,7 +82,7 @@ pub const QUESTIONS: [(u32, &str); 12] = [
     (1, "is n from 1 to 32?"),
     (2, "are r and w at most n?"),
     (3, "is k at least 1, at most r and at most w?"),
-    (4, "is r + w = k + n?"),
+    (4, "is r + w at least k + n?"),
     (5, "is b from 1 to 1,024?"),
     (16, "is the matrix's side from 1 to 32?"),
     (6, "has each slice its exact length?"),
@@ -315,9 +317,9 @@ pub fn encode(p: Params, message: &[u8], slack: &[u8], codeword: &mut [u8]) -> R
     })
 }
 
-/// Writes to `out` (k·b bytes) the message that the blocks of `from`, r nodes,
-/// hold; `codeword` has n·b bytes. Whether the blocks agree is not tested: any
-/// r blocks hold one message.
+/// Writes to `out` (k·b bytes) the message that the blocks of the q lowest of
+/// `from`, r nodes, hold; `codeword` has n·b bytes. Whether the blocks agree is
+/// not tested: any q blocks hold one message.
 ///
 /// Puts the questions 1 to 8.
 pub fn decode(p: Params, codeword: &[u8], from: u32, out: &mut [u8]) -> Result<(), Refusal> {
@@ -385,8 +387,8 @@ pub fn update(p: Params, codeword: &mut [u8], change: &[u8], to: u32) -> Result<
 }
 
 /// Writes in `codeword` (n·b bytes) the blocks of the nodes of `lost` anew, from
-/// the blocks of `from`, r other nodes. Every other byte stays; `lost` may be
-/// empty.
+/// those of the q lowest of `from`, r other nodes. Every other byte stays; `lost`
+/// may be empty.
 ///
 /// Puts the questions 1 to 9.
 pub fn repair(p: Params, codeword: &mut [u8], from: u32, lost: u32) -> Result<(), Refusal> {
@@ -408,8 +410,8 @@ pub fn repair(p: Params, codeword: &mut [u8], from: u32, lost: u32) -> Result<()
 
 /// Writes to `out` (n'·b bytes, the shape's n') the codeword for a new shape and
 /// a new message (k'·b bytes). `codeword` has the old n·b bytes, `from` names r
-/// old nodes, `to` w' of the new ones. Nodes of `to` and nodes above n get new
-/// blocks. Any other block is copied from `codeword` as it is, so a flat node
+/// old nodes, of which the q lowest are read, `to` w' of the new ones. Nodes of
+/// `to` and nodes above n get new blocks. Any other block is copied from `codeword` as it is, so a flat node
 /// can be left out of both sets.
 ///
 /// Puts the questions 1 to 5, 11 to 14, 6, 7, 8.
@@ -447,7 +449,7 @@ pub fn reconfigure(
 }
 
 /// Compares all blocks of `codeword` (n·b bytes) with what those of the nodes 1
-/// to r give: `None` if they agree, else the lowest node that differs. That need
+/// to q give: `None` if they agree, else the lowest node that differs. That need
 /// not be the damaged one: with node 1 damaged it is a sound one.
 ///
 /// Puts the questions 1 to 6.

@@ -174,7 +174,7 @@ stepped (suc q) m e = m
 
 -- ---- lists
 
--- "A trap is undamaged while it is outside the set": no node of the set R is damaged.
+-- "A trap is undamaged while it is outside the set": no node of the set R is damaged, none of "all r traps read" (document 02, 2026-01).
 abbrev pub Undamaged : Machine → ℕ → Type 0
 Undamaged m from = (i : ℕ) → has from i ≡ true → m .damaged i ≡ false
 
