@@ -9,10 +9,12 @@ const fn point(k: usize, r: usize, w: usize, n: usize, b: usize) -> Params {
     Params { k, r, w, n, b }
 }
 
-pub const POINTS: [Params; 5] = [
+/// At (4,9,7,10) there is slack to spare: nine nodes are read, seven used.
+pub const POINTS: [Params; 6] = [
     point(1, 2, 2, 3, 16),
     point(2, 3, 3, 4, 64),
     point(4, 7, 7, 10, 64),
+    point(4, 9, 7, 10, 64),
     point(8, 9, 9, 10, 1024),
     point(16, 24, 24, 32, 1024),
 ];
