@@ -411,8 +411,8 @@ pub fn repair(p: Params, codeword: &mut [u8], from: u32, lost: u32) -> Result<()
 /// Writes to `out` (n'·b bytes, the shape's n') the codeword for a new shape and
 /// a new message (k'·b bytes). `codeword` has the old n·b bytes, `from` names r
 /// old nodes, of which the q lowest are read, `to` w' of the new ones. Nodes of
-/// `to` and nodes above n get new blocks. Any other block is copied from `codeword` as it is, so a flat node
-/// can be left out of both sets.
+/// `to` and nodes above n get new blocks. Any other block is copied from
+/// `codeword` as it is, so a flat node can be left out of both sets.
 ///
 /// Puts the questions 1 to 5, 11 to 14, 6, 7, 8.
 pub fn reconfigure(

@@ -13,7 +13,7 @@ use Rattle.base.proofs.Below.{all-below}
 use Rattle.base.proofs.Cases.{lt-or, eq-or}
 use Rattle.base.proofs.Seq.{cell-blocks, length-blocks, cells-ext}
 use Rattle.field.specs.Field.{Bytes, add}
-use Rattle.params.specs.Nodes.{has, count, nodes}
+use Rattle.params.specs.Nodes.{has, size, within, count, nodes}
 use Rattle.params.specs.Params.{working, reshaped}
 use Rattle.gates.specs.Gates.{checkGate, viewGate}
 use Rattle.gates.specs.Valid.{Valid, DeltaAccepted}
@@ -210,6 +210,15 @@ module _ (a : Params) (from lost : ℕ) (old : List ℕ) where
 
 -- ---- reconfigure
 
+-- where R's pairs have the same blocks, the new pair's slack is the same
+module _ (a : Params) (t : Shape) (valid : Valid (reshaped a t)) (to : ℕ) (hw : within (t .n) to ≡ true) (hs : size to ≡ t .w) (from : ℕ) (x : List ℕ) where
+  pub new-slack : (old old′ new new′ : List ℕ) (r : Reconfigured a t old from to x new) (r′ : Reconfigured a t old′ from to x new′)
+      → ((i p : ℕ) → block a (r .oldMessage) (r .oldSlack) i p ≡ block a (r′ .oldMessage) (r′ .oldSlack) i p) → r .slack ≡ r′ .slack
+  new-slack old old′ new new′ r r′ same =
+      slack-unique (reshaped a t) valid (has to) (written-leaves (reshaped a t) to valid hw hs) x (block a (r .oldMessage) (r .oldSlack)) (r .slack) (r′ .slack)
+      (record { parts = r .pair .slack; equal = r .agrees })
+      (record { parts = r′ .pair .slack; equal = λ j p hj s hp. r′ .agrees j p hj s hp ∙ sym (same (suc j) p) })
+
 module _ (a : Params) (t : Shape) (old : List ℕ) (from to : ℕ) (x buffer : List ℕ) where
   pub reconfigure-met : Bytes old → Bytes x → Met (ReconfigurePost a t old from to x buffer)
   reconfigure-met bytes hx =
@@ -243,10 +252,7 @@ module _ (a : Params) (t : Shape) (old : List ℕ) (from to : ℕ) (x buffer : L
       let before =
       pair-blocks a (g .valid) (used a from) (from-reads a from (g .valid) (g .from-within) (g .from-size)) (r .oldMessage) (r′ .oldMessage) (r .oldSlack)
       (r′ .oldSlack) old (r .gives) (r′ .gives) in
-      let same =
-      slack-unique (reshaped a t) (g .valid-new) (has to) (written-leaves (reshaped a t) to (g .valid-new) (g .to-within) (g .to-size)) x
-      (block a (r .oldMessage) (r .oldSlack)) (r .slack) (r′ .slack) (record { parts = r .pair .slack; equal = r .agrees })
-      (record { parts = r′ .pair .slack; equal = λ j p hj s hp. r′ .agrees j p hj s hp ∙ sym (before (suc j) p) }) in
+      let same = new-slack a t (g .valid-new) to (g .to-within) (g .to-size) from x old old new new′ r r′ before in
       split-unique (a .b) (t .n) (writes a to) (λ j. block (reshaped a t) x (r .slack) (suc j)) (cell (a .b) old)
       (λ j. block (reshaped a t) x (r′ .slack) (suc j)) new new′ (g .valid .b-low) (λ j p. ap (λ (v : List ℕ). block (reshaped a t) x v (suc j) p) same)
       (record { length-is = r .length-is; passed = r .written; other = r .copied })

@@ -167,10 +167,14 @@ module _ (a : Params) (ok : Valid a) (S : ℕ → Bool) (full : Reads a S) where
   pair-blocks x x′ v v′ codeword g g′ i p =
       let e = pair-unique x x′ v v′ codeword g g′ in ap₂ (λ (x v : List ℕ). block a x v i p) (e .0) (e .1)
 
--- a pair that gives the blocks of all nodes of R gives those of the nodes used
+-- a pair that gives the blocks of some nodes gives those of fewer: ..
+pub gives-fewer : {a : Params} {S T : ℕ → Bool} {x v codeword : List ℕ} → ((j : ℕ) → T (suc j) ≡ true → S (suc j) ≡ true)
+    → Gives a x v S codeword → Gives a x v T codeword
+gives-fewer h g = record { pair = g .pair; equal = λ j p hj s hp. g .equal j p hj (h j s) hp }
+
+-- .. of all nodes of R, of those used
 pub gives-used : (a : Params) (from : ℕ) {x v codeword : List ℕ} → Gives a x v (has from) codeword → Gives a x v (used a from) codeword
-gives-used a from g =
-    record { pair = g .pair; equal = λ j p hj s hp. g .equal j p hj (lowest-passes (working a) (has from) (suc j) s) hp }
+gives-used a from = gives-fewer (λ j. lowest-passes (working a) (has from) (suc j))
 
 -- The nodes used are that many: R has r, and q is never above r.
 pub from-reads : (a : Params) (from : ℕ) → Valid a → within (a .n) from ≡ true → size from ≡ a .r → Reads a (used a from)

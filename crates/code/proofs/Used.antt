@@ -13,6 +13,7 @@ use Rattle.params.proofs.Lowest.{Lowest, lowest-has, lowest-size}
 use Rattle.gates.specs.Valid.{Valid}
 use Rattle.gates.proofs.Valid.{working-le-r, working-le}
 use Rattle.code.specs.Code.{Gives, used}
+use Rattle.code.proofs.Pairs.{gives-fewer}
 
 -- the set `chosen` of the nodes that a call given R uses
 pub record Uses (a : Params) (from chosen : ℕ) : Type 0 where
@@ -34,4 +35,4 @@ uses a from chosen q ok hw hs word word′ hq told =
 -- a pair that gives the blocks used gives the set's
 pub gives-chosen : {a : Params} {from chosen : ℕ} → Uses a from chosen → {x v codeword : List ℕ} → Gives a x v (used a from) codeword
     → Gives a x v (has chosen) codeword
-gives-chosen u g = record { pair = g .pair; equal = λ j p hj s hp. g .equal j p hj (sym (u .has-is (suc j)) ∙ s) hp }
+gives-chosen u = gives-fewer (λ j s. sym (u .has-is (suc j)) ∙ s)

@@ -74,8 +74,8 @@ pub record Updated (a : Params) (old d : List ℕ) (to : ℕ) (new : List ℕ) :
 abbrev pub UpdatePost : Params → List ℕ → ℕ → List ℕ → ℕ → List ℕ → Type 0
 UpdatePost a d to old answer new = Post (updateGate a (length old) (length d) to) answer (Updated a old d to new) (new ≡ old)
 
--- ---- "Rebuild: R and a lost choice L. L's blocks become those of R's pair", which its q lowest nodes give. "L may be empty, and
--- then nothing is written."
+-- ---- "Rebuild: R and a lost choice L. L's blocks become those of R's pair", which its q lowest nodes give. "L may be empty, and then nothing is
+-- written."
 
 pub record Repaired (a : Params) (old : List ℕ) (from lost : ℕ) (new : List ℕ) : Type 0 where
   pub message : List ℕ

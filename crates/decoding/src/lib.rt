@@ -22,8 +22,8 @@ pub fn decode(a: Params, codeword: &[u8], from: NodeSet, out: &mut [u8]) -> u32
     if refusal != 0 {
         return refusal;
     }
-    let used = from.lowest(a.working());
-    decode_parts(a, codeword, used, out);
+    let chosen = from.lowest(a.working());
+    decode_parts(a, codeword, chosen, out);
     0
 }
 

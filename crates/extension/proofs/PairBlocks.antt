@@ -1,4 +1,4 @@
--- The blocks of R's pair, from R's blocks: at one byte place the pair is one list of coefficients, none of them leading, and R's blocks are its values.
+-- The blocks of a pair, from those of q nodes: at one byte place the pair is one list of coefficients, none of them leading, and these blocks are its values.
 -- Assumes nothing.
 use mathlib.Core.Path.{_≡_, refl, sym, ap, ap₂, _∙_, subst⁻¹}
 use mathlib.Core.List.{List}
@@ -43,7 +43,7 @@ pub recompute-idle : (a : Params) (from targets : ℕ) (codeword l : List ℕ) �
     → RecomputePost a from targets codeword l l
 recompute-idle a from targets codeword l none = record { same = refl; written = λ ok. absurd (none ok); kept = λ _. refl }
 
--- R's blocks at the places that the code lends, and the targets' blocks one after the other
+-- the blocks of from at the places that the code lends, and the targets' blocks one after the other
 module _ (from targets q rows : ℕ) (places order : List ℕ) (word : from < 2 ^ 32) (word′ : targets < 2 ^ 32) (hq : q ≡ size from) (hr : rows ≡ size targets)
     (told : places ≡ placesOf from) (ordered : order ≡ inOrder) where
   few : rows ≤ 32

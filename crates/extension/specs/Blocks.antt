@@ -15,14 +15,14 @@ use Rattle.placing.specs.Placed.{BlocksIn}
 
 -- ---- the blocks of a pair, from blocks
 
--- what recomputing asks: R has as many nodes of 1..n as message and slack have parts, codeword has n blocks, and fresh one for each target
+-- what recomputing asks: from has as many nodes of 1..n as message and slack have parts, codeword has n blocks, and fresh one for each target
 pub record Recomputable (a : Params) (from targets codeword fresh : ℕ) : Type 0 where
   pub full : size from ≡ working a
   pub inside : (i : ℕ) → has from i ≡ true → i ≤ a .n
   pub codeword-length : codeword ≡ a .n * a .b
   pub room : fresh ≡ size targets * a .b
 
--- new has the targets' blocks of the pair that gives R's blocks; that of node suc j stands at its rank. Where what it asks does not hold, nothing is written.
+-- new has the targets' blocks of the pair that gives from's blocks; that of node suc j stands at its rank. Where what it asks does not hold, nothing is written.
 pub record RecomputePost (a : Params) (from targets : ℕ) (codeword old new : List ℕ) : Type 0 where
   pub same : length new ≡ length old
   pub written : Recomputable a from targets (length codeword) (length old) → (x v : List ℕ) → Gives a x v (has from) codeword

@@ -1,4 +1,5 @@
--- The edges of the questions 1 to 5 (document 01; document 02, 2026-01): one table, and one theorem over its rows, by computation. Assumes nothing.
+-- The edges of the questions 1 to 5 and 11 to 14, and working numbers (document 01; document 02, 2026-01): three tables, and a theorem over the rows of each, by
+-- computing. Assumes nothing.
 use mathlib.Core.Path.{_≡_, refl}
 use mathlib.Core.List.{List, [], _∷_}
 use Prim.Native.Nat.{ℕ}
@@ -10,11 +11,11 @@ use Rattle.params.specs.declared.Params.{Params}
 -- Parameters, and the number that the documents give them.
 pub record Edge : Type 0 where
   pub params : Params
-  pub answer : ℕ
+  pub number : ℕ
 
--- k, r, w, n, B and the answer, in document 01's order
+-- k, r, w, n, B in document 01's order, and the number
 abbrev edge : ℕ → ℕ → ℕ → ℕ → ℕ → ℕ → Edge
-edge k r w n b answer = record { params = record { k = k; r = r; w = w; n = n; b = b }; answer = answer }
+edge k r w n b number = record { params = record { k = k; r = r; w = w; n = n; b = b }; number = number }
 
 abbrev pub edges : List Edge
 edges =
@@ -35,7 +36,9 @@ edges =
 abbrev pub new-edges : List Edge
 new-edges =
     edge 1 2 3 3 16 0 ∷
+    edge 1 1 33 33 16 11 ∷
     edge 2 5 3 4 16 12 ∷
+    edge 0 1 1 2 16 13 ∷
     edge 3 3 3 4 16 14 ∷ []
 
 -- .. and working numbers.
@@ -47,8 +50,8 @@ workings =
 
 -- each row's number is what its parameters have
 abbrev pub All : (Params → ℕ) → List Edge → Type 0
-All number [] = Unit
-All number (e ∷ es) = (number (e .params) ≡ e .answer) × All number es
+All of [] = Unit
+All of (e ∷ es) = (of (e .params) ≡ e .number) × All of es
 
 pub all-edges : All (λ a. firstNo (paramsAsked a)) edges
 unfolding firstNo
@@ -56,7 +59,7 @@ all-edges = (refl, (refl, (refl, (refl, (refl, (refl, (refl, (refl, (refl, (refl
 
 pub all-new-edges : All (λ a. firstNo (shapeAsked 10 (shapeOf a))) new-edges
 unfolding firstNo
-all-new-edges = (refl, (refl, (refl, tt)))
+all-new-edges = (refl, (refl, (refl, (refl, (refl, tt)))))
 
 pub all-workings : All working workings
 unfolding working slackParts

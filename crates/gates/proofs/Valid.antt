@@ -56,7 +56,7 @@ shape-known more t y =
         k-low = kr .0;
         k-le-r = kr .1;
         k-le-w = kw;
-        balance = sum;
+        enough = sum;
       },
       y .1 .1 .1 .1,
     )
@@ -66,7 +66,7 @@ shape-yes more t v y = (
   ap₂ _&&_ (le-leb _ _ (v .n-low)) (le-leb _ _ (v .n-high)),
   (
     ap₂ _&&_ (le-leb _ _ (v .r-le-n)) (le-leb _ _ (v .w-le-n)),
-    (ap₂ _&&_ (ap₂ _&&_ (le-leb _ _ (v .k-low)) (le-leb _ _ (v .k-le-r))) (le-leb _ _ (v .k-le-w)), (le-leb _ _ (v .balance), y)),
+    (ap₂ _&&_ (ap₂ _&&_ (le-leb _ _ (v .k-low)) (le-leb _ _ (v .k-le-r))) (le-leb _ _ (v .k-le-w)), (le-leb _ _ (v .enough), y)),
   ),
 )
 

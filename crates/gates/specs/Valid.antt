@@ -16,7 +16,7 @@ pub record ValidShape (t : Shape) : Type 0 where
   pub k-low : 1 ≤ t .k
   pub k-le-r : t .k ≤ t .r
   pub k-le-w : t .k ≤ t .w
-  pub balance : t .k + t .n ≤ t .r + t .w
+  pub enough : t .k + t .n ≤ t .r + t .w
 
 -- Questions 1 to 5.
 pub record Valid (a : Params) : Type 0 where

@@ -35,7 +35,7 @@ pub extern "C" fn jirvents_encode(
     encode(Params { k, r, w, n, b }, message, slack, codeword)
 }
 
-// Reads the message from the blocks of the nodes in from.
+// Reads the message from the blocks of from's q lowest nodes, q the working number.
 #[no_mangle]
 pub extern "C" fn jirvents_decode(
     k: usize,
@@ -86,7 +86,7 @@ pub extern "C" fn jirvents_update(
     update(Params { k, r, w, n, b }, codeword, change, NodeSet(to))
 }
 
-// Writes the blocks of lost anew from those of from.
+// Writes the blocks of lost anew from those of from's q lowest nodes.
 #[no_mangle]
 pub extern "C" fn jirvents_repair(
     k: usize,
@@ -108,7 +108,7 @@ pub extern "C" fn jirvents_repair(
     )
 }
 
-// Writes the codeword of new parameters with a new message, through the blocks of from and with those of to made new.
+// Writes the codeword of new parameters with a new message, through the blocks of from's q lowest nodes and with those of to made new.
 #[no_mangle]
 pub extern "C" fn jirvents_reconfigure(
     k: usize,

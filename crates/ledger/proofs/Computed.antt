@@ -6,6 +6,7 @@ use mathlib.Core.Bool.{Bool, true, false, not}
 use mathlib.Core.List.{List, [], _∷_}
 use Prim.Native.Nat.{ℕ, suc, _*_, _^_, _<_}
 use native.Mathlib.Omega.{arith}
+use borrow.Author.Tests.{eq-eqb}
 use lib.Dec.{T, eqb, ltb, eqb→eq, ltb→lt}
 use lib.ListN.{length, getD, List·getD-eq-default}
 use Rattle.base.specs.Seq.{cell}
@@ -19,8 +20,8 @@ use Rattle.params.specs.declared.Params.{Params}
 use Rattle.params.specs.declared.Shape.{Shape}
 use Rattle.params.proofs.Sets.{has-le}
 use Rattle.code.specs.Code.{Parts, block, Gives, used, upTo}
-use Rattle.code.specs.Calls.{Post, EncodePost, DecodePost, Vanishes, DeltaPost, UpdatePost, RepairPost, writes, ReconfigurePost, CheckPost}
-use Rattle.code.specs.declared.Verdict.the-variants.{Agrees}
+use Rattle.code.specs.Calls.{Post, EncodePost, DecodePost, Vanishes, DeltaPost, UpdatePost, RepairPost, writes, ReconfigurePost, Same, CheckPost}
+use Rattle.code.specs.declared.Verdict.the-variants.{Agrees, Differs}
 
 -- ---- lists of tests
 
@@ -231,6 +232,36 @@ module _ (a : Params) (codeword message slack : List ℕ) where
             }),
         tt,
       )
+
+-- a check in which node suc j is the lowest whose block differs, at byte place p
+module _ (a : Params) (codeword message slack : List ℕ) (j p : ℕ) where
+  abbrev pub differs? : List Bool
+  differs? =
+      eqb 0 (checkGate a (length codeword)) ∷ conj (gives? a message slack (upTo (working a)) codeword) ∷ ltb j (a .n) ∷ ltb p (a .b) ∷
+      not (eqb (block a message slack (suc j) p) (cell (a .b) codeword j p)) ∷
+      same? j (a .b) (λ i. true) (λ i. block a message slack (suc i)) (cell (a .b) codeword) ∷ []
+
+  pub differs-by : T (conj differs?) → CheckPost a codeword (Differs (record { 0 = suc j }))
+  differs-by h =
+      let t = each differs? h in (
+        accepted (checkGate a) codeword codeword refl (t .0)
+            (record {
+              message = message;
+              slack = slack;
+              gives = gives a message slack (upTo (working a)) codeword (t .1 .0);
+              sound = λ z. absurd (omega (arith, z));
+              lowest = λ i e.
+                  subst (λ (m : ℕ). (m < a .n) × (Same a message slack codeword m → ⊥) × ((l : ℕ) → l < m → Same a message slack codeword l)) (omega (arith, e)) (
+                    ltb→lt _ _ (t .1 .1 .0),
+                    λ s. unlike _ _ (t .1 .1 .1 .1 .0) (s p (ltb→lt _ _ (t .1 .1 .1 .0))),
+                    λ l hl q. same j (a .b) (λ i. true) (λ i. block a message slack (suc i)) (cell (a .b) codeword) (t .1 .1 .1 .1 .1 .0) l q hl refl,
+                  );
+            }),
+        λ z. omega (arith, z),
+      )
+    where
+      unlike : (x y : ℕ) → T (not (eqb x y)) → x ≡ y → ⊥
+      unlike x y t e = subst (λ (b : Bool). T (not b)) (eq-eqb x y e) t
 
 -- ---- sets without damaged nodes
 

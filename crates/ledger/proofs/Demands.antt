@@ -1,14 +1,12 @@
 -- The customer's three demands on one page. Demands 1 and 2 are the contracts of the calls (src/ of the crates views, encoding, decoding, updates, maintenance, reconfiguration
 -- and matrix): each is proved to meet the post-condition named here, for all arguments (view_status answers viewGate). This page says what such a post-condition
 -- settles, and states demand 3. Assumes nothing.
-use mathlib.Core.Path.{_≡_, refl, sym, _∙_}
-use mathlib.Core.Bool.{true}
+use mathlib.Core.Path.{_≡_, refl, sym}
 use mathlib.Core.List.{List, [], _∷_}
 use mathlib.Core.Logic.{_↔_}
-use Prim.Native.Nat.{ℕ, suc, _<_}
+use Prim.Native.Nat.{ℕ}
 use lib.ListN.{length}
 use Rattle.base.specs.Gate.{firstNo}
-use Rattle.base.specs.Seq.{cell}
 use Rattle.field.specs.Field.{Bytes}
 use Rattle.matrix.specs.Invert.{InvertPost, sideAsked, lengthsAsked, inverseAsked, number as invertNumber}
 use Rattle.matrix.specs.declared.Inversion.{Inversion}
@@ -24,8 +22,7 @@ use Rattle.code.specs.Calls.{Post, EncodePost, DecodePost, DeltaPost, UpdatePos
 use Rattle.gates.proofs.Valid.{encode-accepted, decode-accepted}
 use Rattle.code.proofs.Determined.{Met, Once, encode-met, encode-once, decode-met, decode-once, delta-met, delta-once, update-met, update-once, repair-met}
 use Rattle.code.proofs.Determined.{repair-once, reconfigure-met, reconfigure-once, check-met, check-once, view-met, view-once}
-use Rattle.code.proofs.Pairs.{gives-used}
-use Rattle.code.proofs.Theorems.{decode-encode}
+use Rattle.code.proofs.Theorems.{SameAt, decode-encode, gives-same}
 use Rattle.ledger.specs.Ledger.{Held, Machine, Event, History, Reading}
 use Rattle.ledger.proofs.Demand3 as D3
 
@@ -108,35 +105,28 @@ demand-2 =
       inverse = λ s m old. (invert-met s m old, invert-once s m old);
     }
 
--- From message to blocks, and from any r blocks back: an accepted reading through r nodes, the q lowest of which hold their blocks of an accepted set-up, gives
--- its message, whatever the others hold, those of R too.
-abbrev pub SameAt : Params → ℕ → List ℕ → List ℕ → Type 0
-SameAt a from left codeword = (j p : ℕ) → j < a .n → used a from (suc j) ≡ true → p < a .b → cell (a .b) left j p ≡ cell (a .b) codeword j p
-
+-- From message to blocks, and from any r blocks back: an accepted reading through r nodes, the q lowest of which hold their blocks of an accepted set-up
+-- (SameAt), gives its message, whatever the others hold, those of R too.
 pub demand-2-back : (a : Params) (message slack old codeword left buffer out : List ℕ) (from : ℕ) → Bytes message → Bytes slack
     → EncodePost a message slack old 0 codeword → SameAt a from left codeword → DecodePost a left from buffer 0 out → out ≡ message
 demand-2-back a message slack old codeword left buffer out from hm hs set-up same reading =
     let e = encode-accepted a _ _ _ .0 (sym (set-up .number)) in
     let d = decode-accepted a _ _ from .0 (sym (reading .number)) in
-    let g = reading .served refl .gives in
     decode-encode a (e .valid) from (d .from-within) (d .from-size) message slack codeword out
     (record { message = record { length-is = e .message-length; bytes = hm }; slack = record { length-is = e .slack-length; bytes = hs } })
     (set-up .served refl)
-    (record {
-      slack = reading .served refl .slack;
-      gives = record { pair = g .pair; equal = λ j p hj s hp. g .equal j p hj s hp ∙ same j p hj s hp };
-    })
+    (record { slack = reading .served refl .slack; gives = gives-same a from (λ j p hj s hp. sym (same j p hj s hp)) (reading .served refl .gives) })
 
 -- 3. For every list that document 01 allows (History: it opens with an accepted set-up; accepted rebuilds and rearrangements read undamaged nodes) and every
 -- accepted reading after it through undamaged nodes (Reading): the bytes read are the ledger's, ..
 pub demand-3 : {events : List Event} {h : Held} {m : Machine} {out : List ℕ} → History events h m → Reading h m out → out ≡ m .ledger
 demand-3 = D3.reading-is-ledger
 
--- .. and the message of the one pair that gives the blocks read, all r of them; ..
+-- .. and the message of the one pair that gives the blocks read: it gives all r of them, and no other gives even those of the q lowest nodes; ..
 pub demand-3-pair : {events : List Event} {h : Held} {m : Machine} {out : List ℕ} → History events h m → (rd : Reading h m out)
     → (v : List ℕ) × Gives (h .params) out v (has (rd .from)) (h .codeword)
-    × ((x′ v′ : List ℕ) → Gives (h .params) x′ v′ (has (rd .from)) (h .codeword) → (x′ ≡ out) × (v′ ≡ v))
-demand-3-pair {h = h} y rd = let one = D3.reading-is-the-pair's y rd in (one .0, one .1, λ x′ v′ g. one .2 x′ v′ (gives-used (h .params) (rd .from) g))
+    × ((x′ v′ : List ℕ) → Gives (h .params) x′ v′ (used (h .params) (rd .from)) (h .codeword) → (x′ ≡ out) × (v′ ≡ v))
+demand-3-pair = D3.reading-is-the-pair's
 
 -- .. and for every two such lists and readings, these are equal exactly when the ledgers are.
 pub demand-3-equal : {events events′ : List Event} {h h′ : Held} {m m′ : Machine} {out out′ : List ℕ}

@@ -123,6 +123,9 @@ sparing =
     call (record { params = record { k = 2; r = 2; w = 3; n = 3; b = 1 }; codeword = held })
     (reconfigure (record { k = 1; r = 2; w = 3; n = 3 }) (0x00 ∷ 0x00 ∷ 0x00 ∷ []) (0x07 ∷ []) 0b011 0b111)
 
+abbrev spare-check : Event
+spare-check = on-spare check
+
 -- node 3 is damaged, 07 0E FF, and rebuilt from nodes 1 and 2, of which 1 is used: 07 0E 09
 abbrev third-blow : Event
 third-blow = damage 3 (0xff ∷ [])
@@ -146,7 +149,7 @@ events =
     viewing ∷ change ∷ reading ∷ difference ∷ checking ∷
     bad-set-up ∷ bad-change ∷ bad-rebuild ∷ bad-rearrangement ∷ bad-reading ∷ bad-difference ∷ bad-check ∷ bad-view ∷ bad-blow ∷
     blow ∷ change-over ∷ rebuild ∷ second-blow ∷ rearrangement ∷ widening ∷
-    sparing ∷ third-blow ∷ spare-rebuild ∷ fourth-blow ∷ spare-reading ∷ spare-rearrangement ∷ []
+    sparing ∷ spare-check ∷ third-blow ∷ spare-rebuild ∷ fourth-blow ∷ spare-reading ∷ spare-rearrangement ∷ []
 
 -- what the list leaves, and what the machine then holds
 abbrev pub left : Held
@@ -210,6 +213,7 @@ run =
     more {e = sparing} (tt, bytes (0x00 ∷ 0x00 ∷ 0x00 ∷ []) tt, bytes (0x07 ∷ []) tt, omega arith, omega arith)
     (λ _. (given-in-force _, undamaged-by _ 0b011 (omega arith) tt))
     (reconfigured 0 (0x07 ∷ 0x0e ∷ 0x09 ∷ []) (reconfigure-by _ _ _ _ _ _ _ (0x01 ∷ 0x01 ∷ []) [] [] tt _ refl)) (
+    more {e = spare-check} tt (λ _. given-in-force _) (checked Agrees refl (check-by _ _ (0x07 ∷ []) [] tt)) (
     more {e = third-blow} (bytes (0xff ∷ []) tt) (λ _. tt) (damaged refl) (
     more {e = spare-rebuild} (tt, omega arith, omega arith) (λ _. (given-in-force _, undamaged-by _ 0b011 (omega arith) tt))
     (repaired 0 (0x07 ∷ 0x0e ∷ 0x09 ∷ []) (repair-by _ _ _ _ _ (0x07 ∷ []) [] tt)) (
@@ -217,7 +221,7 @@ run =
     more {e = spare-reading} (tt, bytes (0x00 ∷ []) tt, omega arith) (λ _. given-in-force _) (decoded 0 (0xf1 ∷ []) (decode-by _ _ _ _ [] tt _ refl)) (
     more {e = spare-rearrangement} (tt, bytes (0x00 ∷ 0x00 ∷ 0x00 ∷ []) tt, bytes (0x05 ∷ []) tt, omega arith, omega arith)
     (λ _. (given-in-force _, undamaged-by _ 0b101 (omega arith) tt))
-    (reconfigured 0 (0x07 ∷ 0x02 ∷ 0x05 ∷ []) (reconfigure-by _ _ _ _ _ _ _ (0x07 ∷ []) [] (0x02 ∷ []) tt _ refl)) done)))))))))))))))))))))))))
+    (reconfigured 0 (0x07 ∷ 0x02 ∷ 0x05 ∷ []) (reconfigure-by _ _ _ _ _ _ _ (0x07 ∷ []) [] (0x02 ∷ []) tt _ refl)) done))))))))))))))))))))))))))
 
 -- The list is a history, ..
 pub example : History events left machine

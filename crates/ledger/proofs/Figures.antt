@@ -13,12 +13,13 @@ use Rattle.field.specs.FiniteSum.{sum}
 use Rattle.interpolation.specs.Polynomial.{evaluate}
 use Rattle.params.specs.Nodes.{has, size, within, disjoint, count, lowest}
 use Rattle.params.specs.Params.{slackParts, working}
-use Rattle.gates.specs.Gates.{encodeGate, decodeGate, deltaGate, updateGate, repairGate, reconfigureGate}
+use Rattle.gates.specs.Gates.{encodeGate, decodeGate, deltaGate, updateGate, repairGate, reconfigureGate, checkGate}
 use Rattle.params.specs.declared.Params.{Params}
 use Rattle.params.specs.declared.Shape.{Shape}
 use Rattle.code.specs.Code.{point, block}
-use Rattle.code.specs.Calls.{EncodePost, DecodePost, DeltaPost, UpdatePost, RepairPost, ReconfigurePost}
-use Rattle.ledger.proofs.Computed.{encode-by, decode-by, delta-by, update-by, repair-by, reconfigure-by}
+use Rattle.code.specs.Calls.{EncodePost, DecodePost, DeltaPost, UpdatePost, RepairPost, ReconfigurePost, CheckPost}
+use Rattle.code.specs.declared.Verdict.the-variants.{Differs}
+use Rattle.ledger.proofs.Computed.{encode-by, decode-by, delta-by, update-by, repair-by, reconfigure-by, differs-by}
 
 pub data Row : Type 0 where
   product : (a b c : ℕ) → Row
@@ -29,6 +30,7 @@ pub data Row : Type 0 where
   leaves : Params → (old change : List ℕ) (to : ℕ) (new : List ℕ) → Row
   decodes : Params → (codeword : List ℕ) (from : ℕ) (out : List ℕ) → Row
   repairs : Params → (old : List ℕ) (from lost : ℕ) (new : List ℕ) → Row
+  names : Params → (codeword : List ℕ) (node : ℕ) → Row
   reconfigures : Params → Shape → (old : List ℕ) (from to : ℕ) (message new : List ℕ) → Row
 
 -- What a row says, in the words of the contracts; the answers are 0, and a buffer to fill may hold whichever bytes.
@@ -41,6 +43,7 @@ holds (differences a d to out) = (old : List ℕ) → length old ≡ length out 
 holds (leaves a old d to new) = UpdatePost a d to old 0 new
 holds (decodes a codeword from out) = (old : List ℕ) → length old ≡ length out → DecodePost a codeword from old 0 out
 holds (repairs a old from lost new) = RepairPost a from lost old 0 new
+holds (names a codeword node) = CheckPost a codeword (Differs (record { 0 = node }))
 holds (reconfigures a t old from to x new) = (buffer : List ℕ) → length buffer ≡ length new → ReconfigurePost a t old from to x buffer 0 new
 
 abbrev pub All : (Row → Type 0) → List Row → Type 0
@@ -84,16 +87,19 @@ table =
     repairs small (0xff ∷ 0x0c ∷ 0x0f ∷ []) 0b110 0b001 (0x03 ∷ 0x0c ∷ 0x0f ∷ []) ∷
     -- "rearranged to (2,2,3,3), message 01 01, all traps in W': 00 06 06"
     reconfigures small (record { k = 2; r = 2; w = 3; n = 3 }) (0x03 ∷ 0x0c ∷ 0x0f ∷ []) 0b110 0b111 (0x01 ∷ 0x01 ∷ []) (0x00 ∷ 0x06 ∷ 0x06 ∷ []) ∷
-    -- with slack to spare: message 07, no slack; then node 2 is damaged, and the lowest node of R alone counts, in a rebuild and a rearrangement too
+    -- with slack to spare: message 07, no slack; then node 2 is damaged, and the lowest node of R alone counts, in a rebuild and a rearrangement too, and node 1
+    -- in a check
     encodes spare (0x07 ∷ []) [] (0x07 ∷ 0x0e ∷ 0x09 ∷ []) ∷
     decodes spare (0x07 ∷ 0xff ∷ 0x09 ∷ []) 0b011 (0x07 ∷ []) ∷
     decodes spare (0x07 ∷ 0xff ∷ 0x09 ∷ []) 0b110 (0xf1 ∷ []) ∷
     repairs spare (0x07 ∷ 0xff ∷ 0x00 ∷ []) 0b011 0b100 (0x07 ∷ 0xff ∷ 0x09 ∷ []) ∷
-    reconfigures spare (record { k = 1; r = 3; w = 2; n = 3 }) (0x07 ∷ 0xff ∷ 0x09 ∷ []) 0b101 0b110 (0x05 ∷ []) (0x07 ∷ 0x02 ∷ 0x05 ∷ []) ∷ []
+    reconfigures spare (record { k = 1; r = 3; w = 2; n = 3 }) (0x07 ∷ 0xff ∷ 0x09 ∷ []) 0b011 0b110 (0x05 ∷ []) (0x07 ∷ 0x02 ∷ 0x05 ∷ []) ∷
+    names spare (0x07 ∷ 0xff ∷ 0x09 ∷ []) 2 ∷ []
 
 -- Every row holds. The lists given are the slacks and pairs that the definitions speak of.
 pub figures : All holds table
-unfolding encodeGate decodeGate deltaGate updateGate repairGate reconfigureGate firstNo slackParts working has size ones within disjoint count lowest cell block point evaluate sum add mul pow
+unfolding encodeGate decodeGate deltaGate updateGate repairGate reconfigureGate checkGate firstNo slackParts working has size ones within disjoint count lowest
+    cell block point evaluate sum add mul pow
 figures =
     refl &
     refl &
@@ -113,4 +119,5 @@ figures =
     decode-by _ _ _ _ [] tt &
     repair-by _ _ _ _ _ (0x07 ∷ []) [] tt &
     reconfigure-by _ _ _ _ _ _ _ (0x07 ∷ []) [] (0x02 ∷ []) tt &
+    differs-by _ _ (0x07 ∷ []) [] 1 0 tt &
     tt

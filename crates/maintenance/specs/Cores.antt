@@ -12,7 +12,7 @@ use Rattle.code.specs.Code.{block, Gives, upTo}
 use Rattle.code.specs.Calls.{number, nodeNumber, Proper, Same}
 use Rattle.code.specs.declared.Verdict.{Verdict}
 
--- what a rebuild asks: R has as many nodes of 1..n as message and slack have parts, L has nodes of 1..n, and codeword has n blocks, which are not too long
+-- what a rebuild asks: from has as many nodes of 1..n as message and slack have parts, lost has nodes of 1..n, and codeword has n blocks, which are not too long
 pub record Rebuildable (a : Params) (from lost codeword : ℕ) : Type 0 where
   pub full : size from ≡ working a
   pub from-inside : (i : ℕ) → has from i ≡ true → i ≤ a .n
@@ -21,7 +21,7 @@ pub record Rebuildable (a : Params) (from lost codeword : ℕ) : Type 0 where
   pub b-low : 1 ≤ a .b
   pub b-high : a .b ≤ 1024
 
--- L's blocks are those of the pair that gives R's, the others as they were
+-- lost's blocks are those of the pair that gives from's, the others as they were
 pub record Rebuilt (a : Params) (from lost : ℕ) (old new : List ℕ) : Type 0 where
   pub same : length new ≡ length old
   pub rebuilt : (x v : List ℕ) → Gives a x v (has from) old → (j p : ℕ) → has lost (suc j) ≡ true → p < a .b

@@ -10,7 +10,7 @@ ghost use Rattle.params.specs.Nodes.{size};
 ghost use Rattle.code.specs.Calls.{RepairPost};
 ghost use Rattle.maintenance.specs.Cores.{Rebuildable, Rebuilt};
 
-// The blocks of lost become those of the pair of from's q lowest blocks, q the working number.
+// The blocks of lost become those of the pair of the blocks of from's q lowest nodes, q the working number.
 pub fn repair(a: Params, codeword: &mut [u8], from: NodeSet, lost: NodeSet) -> u32
     ensures { λ r. ⌜ RepairPost a (from .0) (lost .0) (now (codeword .entry)) r (now (codeword .exit)) ⌝ }
 {
@@ -18,8 +18,8 @@ pub fn repair(a: Params, codeword: &mut [u8], from: NodeSet, lost: NodeSet) -> u
     if refusal != 0 {
         return refusal;
     }
-    let used = from.lowest(a.working());
-    repair_blocks(a, codeword, used, lost);
+    let chosen = from.lowest(a.working());
+    repair_blocks(a, codeword, chosen, lost);
     0
 }
 

@@ -13,8 +13,8 @@ use Rattle.code.specs.Code.{block, Gives}
 use Rattle.code.specs.Calls.{writes}
 use Rattle.code.specs.Slacks.{Slack}
 
--- R has as many nodes of 1..n as message and slack have parts, W' has w' nodes of 1..n', each buffer has just its blocks, and these are not too many and not too
--- long
+-- from has as many nodes of 1..n as message and slack have parts, W' has w' nodes of 1..n', each buffer has just its blocks, and these are not too many and not
+-- too long
 pub record Reconfigurable (a : Params) (t : Shape) (old new message from to : ℕ) : Type 0 where
   pub full : size from ≡ working a
   pub from-inside : (i : ℕ) → has from i ≡ true → i ≤ a .n
@@ -29,7 +29,7 @@ pub record Reconfigurable (a : Params) (t : Shape) (old new message from to : �
   pub b-low : 1 ≤ a .b
   pub b-high : a .b ≤ 1024
 
--- Where s is the slack with which the message x has the blocks of R's pair (y, v) outside W': blocks in W' and above n are those of (x, s). The others are the
+-- Where s is the slack with which the message x has the blocks of from's pair (y, v) outside W': blocks in W' and above n are those of (x, s). The others are the
 -- old record's.
 pub record Rewritten (a : Params) (t : Shape) (old : List ℕ) (from to : ℕ) (x new : List ℕ) : Type 0 where
   pub length-is : length new ≡ t .n * a .b

@@ -1,4 +1,4 @@
-// Document 01's rearrangement: from one shape to another, through the blocks of a set R and with the blocks of a set W' made new. It is its gate, and then a
+// Document 01's rearrangement: from one shape to another, through a set R and with the blocks of a set W' made new. It is its gate, and then a
 // private core, which knows of no gate.
 //
 // Outside W' the new pair has the old pair's blocks. These and the new message settle it, and so every block that is written. The others are copied.
@@ -31,8 +31,8 @@ pub fn reconfigure(
     if refusal != 0 {
         return refusal;
     }
-    let used = from.lowest(a.working());
-    reconfigure_blocks(a, shape, codeword, used, to, message, out);
+    let chosen = from.lowest(a.working());
+    reconfigure_blocks(a, shape, codeword, chosen, to, message, out);
     0
 }
 

@@ -66,8 +66,8 @@ ends : length input ≤ 45
 ends = omega arith
 
 pub sample : Season input output
-unfolding openingOf itemAt numberAt choiceAt lineOf decimal digitsBefore hexDigit hex messageField answerOf encodeGate decodeGate updateGate damageGate firstNo slackParts working
-    has size ones within disjoint count lowest cell blocks tabulate block point evaluate sum add mul pow damagedWord
+unfolding openingOf itemAt numberAt choiceAt lineOf decimal digitsBefore hexDigit hex messageField answerOf encodeGate decodeGate updateGate damageGate firstNo
+    slackParts working has size ones within disjoint count lowest cell blocks tabulate block point evaluate sum add mul pow damagedWord
 sample =
     season
     (opened (record { params = small; message = record { at = 14; count = 1 }; slack = record { at = 17; count = 1 }; events = 5; at = 20 })

@@ -1,4 +1,4 @@
--- R's blocks are the values of polynomials without leading parts; what is asked is tested first. Assumes nothing.
+-- The blocks given are the values of polynomials without leading parts; what is asked is tested first. Assumes nothing.
 use mathlib.Core.Path.{_≡_, sym, ap, _∙_}
 use mathlib.Core.Bool.{true≢false}
 use mathlib.Core.List.{List}

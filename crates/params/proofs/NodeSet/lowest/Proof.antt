@@ -7,7 +7,7 @@ use lib.Bits.{bitAnd}
 use lib.Count.{trailingZeros}
 use lib.Pow.{pow-pos}
 use Rattle.params.specs.Nodes.{has, size, lowest}
-use Rattle.params.proofs.Words.{one-shifted, Passed, passed-none, next-lt, passed-more, more-left, passed-lt, passed-lowest}
+use Rattle.params.proofs.Words.{one-shifted, Passed, passed-none, next-lt, at-lt, passed-more, more-left, passed-lt, passed-lowest}
 use Rattle.params.proofs.Lowest.{lowest-all}
 use Rattle.params.proofs.NodeSet.lowest.Statement.{statement}
 use Rattle.params.proofs.NodeSet.lowest.Tie as tie
@@ -22,7 +22,7 @@ abbrev Inv-loop : tie.InvT-loop
 Inv-loop self q at₀ passed₀ rest₀ at passed rest = Walk (self .0) q at passed rest
 
 abbrev μ-loop : tie.MeasureT-loop
-μ-loop self q at₀ passed₀ rest₀ at passed rest = q - at
+μ-loop self q at₀ passed₀ rest₀ at passed rest = size (self .0) - at
 
 size-requires : tie.Need-size-requires Inv-loop μ-loop
 size-requires c κs = search needs
@@ -56,10 +56,10 @@ shr-rest : tie.Need-shr-rest Inv-loop μ-loop
 shr-rest c = omega (arith, next c)
 
 add-at : tie.Need-add-at Inv-loop μ-loop
-add-at c = omega (arith, c .loop-test .taken)
+add-at c = omega (arith, at-lt (c .before .loop .inv .walk) (left c))
 
 loop-less : tie.Need-loop-less Inv-loop μ-loop
-loop-less c = omega (arith, c .loop-test .taken)
+loop-less c = omega (arith, c .loop-test .taken, c .before .loop .inv .more)
 
 loop-again : tie.Need-loop-again Inv-loop μ-loop
 loop-again c =
