@@ -1,7 +1,7 @@
 -- A list with every kind of event, accepted and refused, shown to be a history by computing its posts; and the reading after it. Assumes nothing.
 use mathlib.Core.Path.{_≡_, refl}
 use mathlib.Core.Bool.{Bool, not, _&&_, _||_}
-use mathlib.Core.List.{List, [], _∷_}
+use mathlib.Core.List.{List, [], _∷_, _++_}
 use Prim.Native.Nat.{ℕ, suc}
 use native.Mathlib.Omega.{arith}
 use lib.Count.{ones}
@@ -144,28 +144,45 @@ spare-reading = on-spare (decode (0x00 ∷ []) 0b110)
 abbrev spare-rearrangement : Event
 spare-rearrangement = on-spare (reconfigure (record { k = 1; r = 3; w = 2; n = 3 }) (0x00 ∷ 0x00 ∷ 0x00 ∷ []) (0x05 ∷ []) 0b101 0b110)
 
-abbrev pub events : List Event
-events =
+-- change 05 through nodes 1 and 2 leaves 01 04 05: message 00, though no block is 00
+abbrev spare-change : Event
+spare-change = call (record { params = record { k = 1; r = 3; w = 2; n = 3; b = 1 }; codeword = held }) (update (0x05 ∷ []) 0b011)
+
+-- the list is in two parts, since one as long would take three times as long to check, ..
+abbrev first : List Event
+first =
     viewing ∷ change ∷ reading ∷ difference ∷ checking ∷
     bad-set-up ∷ bad-change ∷ bad-rebuild ∷ bad-rearrangement ∷ bad-reading ∷ bad-difference ∷ bad-check ∷ bad-view ∷ bad-blow ∷
-    blow ∷ change-over ∷ rebuild ∷ second-blow ∷ rearrangement ∷ widening ∷
-    sparing ∷ spare-check ∷ third-blow ∷ spare-rebuild ∷ fourth-blow ∷ spare-reading ∷ spare-rearrangement ∷ []
+    blow ∷ change-over ∷ rebuild ∷ second-blow ∷ rearrangement ∷ widening ∷ []
 
--- what the list leaves, and what the machine then holds
+abbrev second : List Event
+second = sparing ∷ spare-check ∷ third-blow ∷ spare-rebuild ∷ fourth-blow ∷ spare-reading ∷ spare-rearrangement ∷ spare-change ∷ []
+
+abbrev pub events : List Event
+events = first ++ second
+
+-- .. with what the first leaves, and what the machine then holds, ..
+abbrev wide : Held
+wide = record { params = record { k = 2; r = 2; w = 3; n = 3; b = 1 }; codeword = 0x00 ∷ 0x06 ∷ 0x06 ∷ [] }
+
+-- a rearrangement takes damaged nodes out of the set: there are three nodes before and after it
+abbrev rewrites : ℕ → (ℕ → Bool) → ℕ → Bool
+rewrites to before i = ((before i && not (has to i)) && leb i 3) && leb i 3
+
+abbrev widened : Machine
+widened =
+    record { params = wide .params; ledger = 0x01 ∷ 0x01 ∷ []; damaged = rewrites 0b111 (rewrites 0b110 (λ i. (eqb i 1 && not (has 0b001 i)) || eqb i 1)) }
+
+-- .. and the whole
 abbrev pub left : Held
-left = record { params = record { k = 1; r = 3; w = 2; n = 3; b = 1 }; codeword = 0x07 ∷ 0x02 ∷ 0x05 ∷ [] }
-
--- (a rearrangement's part in the set: three nodes before and after it)
-abbrev rewrites : ℕ → Bool → ℕ → Bool
-rewrites to before i = ((before && not (has to i)) && leb i 3) && leb i 3
+left = record { params = record { k = 1; r = 3; w = 2; n = 3; b = 1 }; codeword = 0x01 ∷ 0x04 ∷ 0x05 ∷ [] }
 
 abbrev pub machine : Machine
 machine =
     record {
       params = left .params;
-      ledger = 0x05 ∷ [];
-      damaged = λ i.
-          rewrites 0b110 ((rewrites 0b111 (rewrites 0b111 (rewrites 0b110 ((eqb i 1 && not (has 0b001 i)) || eqb i 1) i) i) i || eqb i 3) && not (has 0b100 i) || eqb i 2) i;
+      ledger = 0x00 ∷ [];
+      damaged = rewrites 0b110 (λ i. (rewrites 0b111 (widened .damaged) i || eqb i 3) && not (has 0b100 i) || eqb i 2);
     }
 
 -- an answer other than 0
@@ -175,10 +192,10 @@ never q z = omega arith
 refused : {gate : ℕ} {A : Type 0} {old : List ℕ} (q : ℕ) → suc q ≡ gate → Post gate (suc q) A (old ≡ old)
 refused q e = record { number = e; served = λ z. absurd (never q z); refused = λ _. refl }
 
-run : Run (begun small (0x06 ∷ 0x0a ∷ 0x0c ∷ [])) (opened small (0x07 ∷ [])) events left machine
+first-run : Run (begun small (0x06 ∷ 0x0a ∷ 0x0c ∷ [])) (opened small (0x07 ∷ [])) first wide widened
 unfolding encodeGate decodeGate deltaGate updateGate repairGate reconfigureGate checkGate viewGate damageGate firstNo slackParts working
     has size ones within disjoint count lowest cell blocks tabulate block point evaluate sum add mul pow damagedWord plus
-run =
+first-run =
     more {e = viewing} tt (λ _. given-in-force _) (viewed (0x0a ∷ []) refl (record { number = refl; served = λ _. refl; refused = λ ne. absurd (ne refl) })) (
     more {e = change} (tt, bytes (0x05 ∷ []) tt, omega arith) (λ _. given-in-force _)
     (updated 0 (0x00 ∷ 0x0c ∷ 0x0c ∷ []) (update-by _ _ _ _ _ (0x03 ∷ []) tt)) (
@@ -209,7 +226,12 @@ run =
     (reconfigured 0 (0xaa ∷ 0x2e ∷ 0x28 ∷ []) (reconfigure-by _ _ _ _ _ _ _ (0x07 ∷ []) (0x01 ∷ []) (0x0f ∷ []) tt _ refl)) (
     more {e = widening} (tt, bytes (0x00 ∷ 0x00 ∷ 0x00 ∷ []) tt, bytes (0x01 ∷ 0x01 ∷ []) tt, omega arith, omega arith)
     (λ _. (given-in-force _, undamaged-by _ 0b110 (omega arith) tt))
-    (reconfigured 0 (0x00 ∷ 0x06 ∷ 0x06 ∷ []) (reconfigure-by _ _ _ _ _ _ _ (0x09 ∷ []) (0x0f ∷ []) [] tt _ refl)) (
+    (reconfigured 0 (0x00 ∷ 0x06 ∷ 0x06 ∷ []) (reconfigure-by _ _ _ _ _ _ _ (0x09 ∷ []) (0x0f ∷ []) [] tt _ refl)) done)))))))))))))))))))
+
+second-run : Run wide widened second left machine
+unfolding decodeGate updateGate repairGate reconfigureGate checkGate damageGate firstNo slackParts working
+    has size ones within disjoint count lowest cell blocks tabulate block point evaluate sum add mul pow damagedWord plus
+second-run =
     more {e = sparing} (tt, bytes (0x00 ∷ 0x00 ∷ 0x00 ∷ []) tt, bytes (0x07 ∷ []) tt, omega arith, omega arith)
     (λ _. (given-in-force _, undamaged-by _ 0b011 (omega arith) tt))
     (reconfigured 0 (0x07 ∷ 0x0e ∷ 0x09 ∷ []) (reconfigure-by _ _ _ _ _ _ _ (0x01 ∷ 0x01 ∷ []) [] [] tt _ refl)) (
@@ -221,7 +243,14 @@ run =
     more {e = spare-reading} (tt, bytes (0x00 ∷ []) tt, omega arith) (λ _. given-in-force _) (decoded 0 (0xf1 ∷ []) (decode-by _ _ _ _ [] tt _ refl)) (
     more {e = spare-rearrangement} (tt, bytes (0x00 ∷ 0x00 ∷ 0x00 ∷ []) tt, bytes (0x05 ∷ []) tt, omega arith, omega arith)
     (λ _. (given-in-force _, undamaged-by _ 0b101 (omega arith) tt))
-    (reconfigured 0 (0x07 ∷ 0x02 ∷ 0x05 ∷ []) (reconfigure-by _ _ _ _ _ _ _ (0x07 ∷ []) [] (0x02 ∷ []) tt _ refl)) done))))))))))))))))))))))))))
+    (reconfigured 0 (0x07 ∷ 0x02 ∷ 0x05 ∷ []) (reconfigure-by _ _ _ _ _ _ _ (0x07 ∷ []) [] (0x02 ∷ []) tt _ refl)) (
+    more {e = spare-change} (tt, bytes (0x05 ∷ []) tt, omega arith) (λ _. given-in-force _)
+    (updated 0 (0x01 ∷ 0x04 ∷ 0x05 ∷ []) (update-by _ _ _ _ _ (0x03 ∷ []) tt)) done)))))))
+
+-- one list after another
+followed : {h h′ h″ : Held} {m m′ m″ : Machine} {es es′ : List Event} → Run h m es h′ m′ → Run h′ m′ es′ h″ m″ → Run h m (es ++ es′) h″ m″
+followed done r = r
+followed (more t al st rest) r = more t al st (followed rest r)
 
 -- The list is a history, ..
 pub example : History events left machine
@@ -235,20 +264,20 @@ example =
       codeword = 0x06 ∷ 0x0a ∷ 0x0c ∷ [];
       typed = (bytes (0x07 ∷ []) tt, bytes (0x01 ∷ []) tt, bytes (0xff ∷ 0xff ∷ 0xff ∷ []) tt);
       opening = encode-by _ _ _ _ tt _ refl;
-      run = run;
+      run = followed first-run second-run;
     }
 
--- .. after which the nodes read 05, by what decode means, ..
-pub example-reading : Reading left machine (0x05 ∷ [])
+-- .. after which the nodes read 00, by what decode means, ..
+pub example-reading : Reading left machine (0x00 ∷ [])
 unfolding decodeGate firstNo slackParts working has size ones within count lowest cell block point evaluate sum add mul pow
 example-reading =
     record {
       from = 0b111;
-      buffer = 0x00 ∷ [];
-      accepted = decode-by _ _ _ _ (0x02 ∷ []) tt _ refl;
+      buffer = 0xff ∷ [];
+      accepted = decode-by _ _ _ _ (0x01 ∷ []) tt _ refl;
       undamaged = undamaged-by _ 0b111 (omega arith) tt;
     }
 
 -- .. and by the ledger: every reading there gives this byte.
-pub example-ledger : (out : List ℕ) → Reading left machine out → out ≡ 0x05 ∷ []
+pub example-ledger : (out : List ℕ) → Reading left machine out → out ≡ 0x00 ∷ []
 example-ledger out rd = reading-is-ledger example rd
