@@ -1,4 +1,4 @@
--- A part of a list that was lent and came back changed, told entry by entry, and a loop that writes a list block by block. Assumes nothing.
+-- A part of a list that was lent and came back changed, told entry by entry, and loops that write a list part by part or block by block. Assumes nothing.
 use mathlib.Core.Path.{_≡_, refl, sym, ap, _∙_}
 use mathlib.Core.List.{List, _++_}
 use mathlib.Core.Logic.{⊎-elim}
@@ -9,7 +9,7 @@ use borrow.Rule.Slice.PartMut.{putMid, postOf, same-len-mid}
 use lib.ListN.{length, getD, take, drop, length-drop, List·getD-append}
 use lib.Seq.{length-take-le, getD-take, getD-drop, getD-append-add}
 use Rattle.base.specs.Seq.{cell, blocks}
-use Rattle.base.specs.Parts.{partOf, putBlock, Blocked}
+use Rattle.base.specs.Parts.{Filled, partOf, putBlock, Blocked}
 use Rattle.base.proofs.Cases.{lt-or, eq-or}
 use Rattle.base.proofs.Seq.{cell-blocks, length-blocks, cells-ext}
 
@@ -36,16 +36,38 @@ module _ (a k : ℕ) (xs ys : List ℕ) (fits : a + k ≤ length xs) (full : len
       ∙ ap (λ (m : ℕ). getD (ys ++ postOf a k xs) (m + (q - (a + k))) 0) (sym full) ∙ getD-append-add ys _ (q - (a + k)) 0
       ∙ getD-drop k (drop a xs) (q - (a + k)) 0 ∙ getD-drop a xs (k + (q - (a + k))) 0 ∙ ap (λ (m : ℕ). getD xs m 0) e
 
+-- k entries from a on, as the code lends them
+pub length-lent : (a k : ℕ) (xs : List ℕ) → a + k ≤ length xs → length (take k (drop a xs)) ≡ k
+length-lent a k xs h = length-take-le k (drop a xs) (omega (arith, length-drop a xs))
+
+pub lent-at : (a k : ℕ) (xs : List ℕ) (p : ℕ) → p < k → getD (take k (drop a xs)) p 0 ≡ getD xs (a + p) 0
+lent-at a k xs p h = getD-take k (drop a xs) p 0 h ∙ getD-drop a xs p 0
+
+-- a loop that fills a list part by part: the part from t to n, k entries long
+pub filled-part : (f : ℕ → ℕ) (t k n : ℕ) (old new part : List ℕ) → t + k ≡ n → n ≤ length new → length part ≡ k
+    → ((q : ℕ) → q < k → getD part q 0 ≡ f (t + q)) → Filled f t old new → Filled f n old (putMid t k new part)
+filled-part f t k n old new part e le full h s =
+    record {
+      same = same-len-mid t k new part (full ∙ sym (length-lent t k new (omega arith))) ∙ s .same;
+      done = λ q hq.
+          ⊎-elim (λ (lt : q < t). put-before t k new part (omega arith) full q lt ∙ s .done q lt)
+          (λ (ge : t ≤ q).
+          let d : t + (q - t) ≡ q = omega arith in
+          ap (λ (m : ℕ). getD (putMid t k new part) m 0) (sym d) ∙ put-in t k new part (omega arith) full (q - t) (omega arith) ∙ h (q - t) (omega arith) ∙ ap f d)
+          (lt-or q t);
+      rest = λ q hq. put-after t k new part (omega arith) full q (omega arith) ∙ s .rest q (omega arith);
+    }
+
 -- row i of n rows of b entries ends within them
 pub row-ends : (n i b size : ℕ) → i < n → n * b ≤ size → i * b + b ≤ size
 row-ends n i b size h k = omega (arith, mul-le-mul-right b h, suc-mul i b)
 
 pub length-partOf : (b j : ℕ) (xs : List ℕ) → j * b + b ≤ length xs → length (partOf b j xs) ≡ b
-length-partOf b j xs h = length-take-le (j * b + b - j * b) (drop (j * b) xs) (omega (arith, length-drop (j * b) xs)) ∙ omega arith
+length-partOf b j xs h = length-lent (j * b) (j * b + b - j * b) xs (omega arith) ∙ omega arith
 
 pub partOf-at : (b j : ℕ) (xs : List ℕ) (p : ℕ) → p < b → getD (partOf b j xs) p 0 ≡ cell b xs j p
 unfolding cell
-partOf-at b j xs p h = getD-take (j * b + b - j * b) (drop (j * b) xs) p 0 (omega arith) ∙ getD-drop (j * b) xs p 0
+partOf-at b j xs p h = lent-at (j * b) (j * b + b - j * b) xs p (omega arith)
 
 module _ (b n j : ℕ) (xs ys : List ℕ) (hj : j < n) (hx : n * b ≤ length xs) (hy : length ys ≡ b) where
   inside : j * b + (j * b + b - j * b) ≤ length xs
@@ -71,7 +93,7 @@ module _ (b n j : ℕ) (xs ys : List ℕ) (hj : j < n) (hx : n * b ≤ length xs
   pub putBlock-length : length (putBlock b j xs ys) ≡ length xs
   putBlock-length =
       same-len-mid (j * b) (j * b + b - j * b) xs ys
-      (whole ∙ sym (length-take-le (j * b + b - j * b) (drop (j * b) xs) (omega (arith, length-drop (j * b) xs, inside))))
+      (whole ∙ sym (length-lent (j * b) (j * b + b - j * b) xs inside))
 
 -- ---- a loop that writes the blocks of a list one after the other
 

@@ -1,2 +1,2 @@
 pub mod Laws
-mod Overlap
+pub mod Overlap

@@ -5,8 +5,8 @@ use blocks::add_block;
 use blocks::clear;
 use blocks::copy_block;
 use picks::put_picks;
-use tiles::add_part;
 use tiles::double_tile;
+use words::add_words;
 ghost use mathlib.Core.Path.{_≡_};
 ghost use Prim.Native.Nat.{ℕ, _+_, _*_, _≤_, _<_};
 ghost use lib.ListN.{length};
@@ -159,5 +159,5 @@ fn add_short_row(dst: &mut [u8], table: &[u8], picks: &[u8], i: usize)
         add_block(&mut sum, &table[at..end]);
         s += 1;
     }
-    add_part(dst, &sum);
+    add_words(dst, &sum);
 }

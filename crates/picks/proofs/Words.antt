@@ -1,45 +1,26 @@
 -- Picks are found eight together, as the bytes of one word: a digit is appended to all by doubling the word, and no byte runs over into the next. Assumes nothing.
-use mathlib.Core.Path.{_≡_, refl, sym, ap, _∙_}
+use mathlib.Core.Path.{_≡_, refl, sym, ap, ap₂, _∙_}
 use mathlib.Core.List.{List}
 use Prim.Native.Nat.{ℕ, zero, suc, _+_, _*_, _/_, _%_, _^_, _≤_, _<_}
-use native.Mathlib.Nat.{not-suc-le-zero, le-of-suc-le-suc, pow-suc, pow-succ', div-div-eq-div-mul}
 use native.Mathlib.Numerals.{add-one}
 use native.Mathlib.Omega.{arith}
 use lib.Bits.{bitAnd}
 use lib.Dec.{T, eqb, eqb→eq}
 use lib.ListN.{length, getD}
 use Rattle.base.specs.Seq.{tabulate}
-use Rattle.base.proofs.Seq.{tabulate-ext}
 use Rattle.base.proofs.Test.{allBelow, below}
 use Rattle.field.specs.Field.{IsByte}
-use Rattle.picks.specs.Picks.{bit, number, word, pickOf}
+use Rattle.words.specs.Words.{word, bytesOf}
+use Rattle.words.proofs.Words.{word-lt, bytes-word}
+use Rattle.picks.specs.Picks.{bit, number, pickOf}
 use Rattle.picks.proofs.Digits.{bit-lt, number-below}
 
--- ---- the bytes of a word
-
-word-lt : (m : ℕ) (f : ℕ → ℕ) → ((s : ℕ) → f s < 256) → word m f < 256 ^ m
-unfolding word
-word-lt zero f h = omega arith
-word-lt (suc m) f h = omega (arith, h 0, word-lt m (λ s. f (suc s)) (λ s. h (suc s)), pow-suc 256 m)
+-- ---- words
 
 word-twice : (m : ℕ) (f g : ℕ → ℕ) → word m f * 2 + word m g ≡ word m (λ s. f s * 2 + g s)
 unfolding word
 word-twice zero f g = omega arith
 word-twice (suc m) f g = omega (arith, word-twice m (λ s. f (suc s)) (λ s. g (suc s)))
-
--- one byte less
-pub next-byte : (w s : ℕ) → w / 256 ^ s / 256 ≡ w / 256 ^ (s + 1)
-next-byte w s = div-div-eq-div-mul w (256 ^ s) 256 ∙ ap (λ (k : ℕ). w / k) (sym (pow-suc 256 s)) ∙ ap (λ (k : ℕ). w / 256 ^ k) (sym (add-one s))
-
-word-byte : (m : ℕ) (f : ℕ → ℕ) (s : ℕ) → ((s : ℕ) → f s < 256) → s < m → word m f / 256 ^ s % 256 ≡ f s
-unfolding word
-word-byte zero f s h lt = absurd (not-suc-le-zero lt)
-word-byte (suc m) f zero h lt = omega (arith, h 0)
-word-byte (suc m) f (suc s) h lt =
-    let rest : (f 0 + 256 * word m (λ s. f (suc s))) / 256 ≡ word m (λ s. f (suc s)) = omega (arith, h 0) in
-    ap (λ (k : ℕ). (f 0 + 256 * word m (λ s. f (suc s))) / k % 256) (pow-succ' 256 s)
-    ∙ ap (λ (k : ℕ). k % 256) (sym (div-div-eq-div-mul (f 0 + 256 * word m (λ s. f (suc s))) 256 (256 ^ s)) ∙ ap (λ (k : ℕ). k / 256 ^ s) rest)
-    ∙ word-byte m (λ s. f (suc s)) s (λ s. h (suc s)) (le-of-suc-le-suc lt)
 
 -- ---- the bits of a coefficient, spread over a word
 
@@ -69,8 +50,6 @@ pub picks-fit : (coeffs : List ℕ) (k : ℕ) → k ≤ 8 → word 8 (firstPicks
 picks-fit coeffs k h = word-lt 8 (firstPicks coeffs k) (λ s. number-byte k _ (λ j. bit-lt s _) h)
 
 -- the bytes of such a word
-pub picks-are : (coeffs : List ℕ) (w : ℕ) → length coeffs ≤ 8 → w ≡ word 8 (pickOf coeffs) → tabulate 8 (λ s. w / 256 ^ s % 256) ≡ tabulate 8 (pickOf coeffs)
+pub picks-are : (coeffs : List ℕ) (m w : ℕ) → m ≡ 8 → length coeffs ≤ 8 → w ≡ word 8 (pickOf coeffs) → bytesOf m w ≡ tabulate 8 (pickOf coeffs)
 unfolding pickOf
-picks-are coeffs w h e =
-    tabulate-ext 8 _ _
-    (λ s hs. ap (λ (k : ℕ). k / 256 ^ s % 256) e ∙ word-byte 8 (firstPicks coeffs (length coeffs)) s (λ s. number-byte (length coeffs) _ (λ k. bit-lt s _) h) hs)
+picks-are coeffs m w e h ew = ap₂ bytesOf e ew ∙ bytes-word 8 (firstPicks coeffs (length coeffs)) (λ s. number-byte (length coeffs) _ (λ k. bit-lt s _) h)

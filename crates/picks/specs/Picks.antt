@@ -16,11 +16,6 @@ unfoldable pub number : ℕ → (ℕ → ℕ) → ℕ
 number zero d = 0
 number (suc m) d = number m d * 2 + d m
 
--- the number with the digits f 0 to f (m - 1) to base 256, the first the lowest
-unfoldable pub word : ℕ → (ℕ → ℕ) → ℕ
-word zero f = 0
-word (suc m) f = f 0 + 256 * word m (λ s. f (suc s))
-
 -- ---- picks
 
 -- the eight picks of some coefficients: that of bit 7 - s has their bits as digits

@@ -1,11 +1,12 @@
 // Picks: which entry of a group's table a row of a product adds at each bit. For one row, one group of columns and one of the eight bits, the pick is the number whose
 // binary digits are that bit of each of the group's coefficients. The eight picks of a row and group are found together, as the bytes of one word: each column doubles
 // the word and adds the bits of its coefficient, one to each byte.
+use words::put_word;
 ghost use mathlib.Core.Path.{_≡_};
-ghost use Prim.Native.Nat.{_/_, _%_, _^_, _≤_};
+ghost use Prim.Native.Nat.{_≤_};
 ghost use lib.ListN.{length};
-ghost use Rattle.base.specs.Seq.{tabulate};
-ghost use Rattle.picks.specs.Picks.{bit, word, pickOf, Picks};
+ghost use Rattle.words.specs.Words.{word};
+ghost use Rattle.picks.specs.Picks.{bit, pickOf, Picks};
 
 // picks := those of the coefficients, of which there are at most eight: that of bit 7 - s stands at place s. Where there are more, or picks has not eight bytes, nothing is
 // written.
@@ -44,18 +45,4 @@ fn spread(c: u8) -> u64
 {
     let copies = (c % 128) as u64 * 72198606942111748;
     (copies & 72340172838076672) + (c / 128) as u64
-}
-
-// picks := the eight bytes of a word, the lowest first.
-fn put_word(picks: &mut [u8], word: u64)
-    requires { ⌜ length (now picks) ≡ 8 ⌝ }
-    ensures { λ _. ⌜ now (picks .exit) ≡ tabulate 8 (λ s. word / 256 ^ s % 256) ⌝ }
-{
-    let mut rest = word;
-    let mut s = 0;
-    while s < 8 {
-        picks[s] = (rest % 256) as u8;
-        rest = rest / 256;
-        s += 1;
-    }
 }

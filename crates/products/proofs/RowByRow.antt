@@ -32,7 +32,7 @@ part-inside b i src places out h f = subst⁻¹ (λ (m : ℕ). Inside m places s
 module _ (b stride : ℕ) (src targets places coeffs old : List ℕ) where
   -- the block of a row's target, as the code lends it, and what it becomes
   pub row-added : (i g : ℕ) (out part : List ℕ) → g ≡ getD targets i 0 → g * b + b ≤ length out
-      → Accumulated src places (rowOf stride (length places) i coeffs) (partOf b g out) part
+      → Accumulated (length (partOf b g out)) 0 src places (rowOf stride (length places) i coeffs) (partOf b g out) part
       → Spanned b 0 b targets (λ i p. product b src places coeffs stride i p) i old out
       → Spanned b 0 b targets (λ i p. product b src places coeffs stride i p) (i + 1) old (putBlock b g out part)
   row-added i g out part eg ends a s =
@@ -42,7 +42,7 @@ module _ (b stride : ℕ) (src targets places coeffs old : List ℕ) where
       let front : p ≡ 0 + p = omega arith in
       a .sums p (omega (arith, l))
       ∙ ap₂ add (partOf-at b g out p hp ∙ ap₂ (cell b out) eg front)
-      (ap (λ (k : ℕ). combined k src places (rowOf stride (length places) i coeffs) p) l ∙ row-combined b stride i p src places coeffs))
+      (ap₂ (λ (k q : ℕ). combined k src places (rowOf stride (length places) i coeffs) q) l (sym front) ∙ row-combined b stride i p src places coeffs))
       s
     where
       l : length (partOf b g out) ≡ b

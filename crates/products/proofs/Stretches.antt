@@ -4,8 +4,9 @@ use mathlib.Core.List.{List}
 use Prim.Native.Nat.{ℕ, _+_, _-_, _*_, _≤_, _<_}
 use native.Mathlib.Nat.{suc-mul}
 use native.Mathlib.Omega.{arith}
-use lib.ListN.{length, getD, take, drop, length-drop}
-use lib.Seq.{length-take-le, getD-take, getD-drop}
+use lib.ListN.{length, getD, take, drop}
+use Rattle.base.specs.Seq.{cell}
+use Rattle.base.proofs.Parts.{length-lent, lent-at}
 use Rattle.products.specs.Blocks.{Inside}
 
 -- the n bytes of xs from a on, as the code lends them
@@ -17,10 +18,17 @@ abbrev pub rowOf : ℕ → ℕ → ℕ → List ℕ → List ℕ
 rowOf stride width i coeffs = stretch (i * stride) width coeffs
 
 pub length-stretch : (a n : ℕ) (xs : List ℕ) → a + n ≤ length xs → length (stretch a n xs) ≡ n
-length-stretch a n xs h = length-take-le (a + n - a) (drop a xs) (omega (arith, length-drop a xs)) ∙ omega arith
+length-stretch a n xs h = length-lent a (a + n - a) xs (omega arith) ∙ omega arith
 
 pub stretch-at : (a n : ℕ) (xs : List ℕ) (p : ℕ) → p < n → getD (stretch a n xs) p 0 ≡ getD xs (a + p) 0
-stretch-at a n xs p h = getD-take (a + n - a) (drop a xs) p 0 (omega arith) ∙ getD-drop a xs p 0
+stretch-at a n xs p h = lent-at a (a + n - a) xs p (omega arith)
+
+-- w bytes from `at` on of block k
+pub stretch-cell : (b at w k : ℕ) (xs : List ℕ) (p : ℕ) → p < w → getD (stretch (k * b + at) w xs) p 0 ≡ cell b xs k (at + p)
+unfolding cell
+stretch-cell b at w k xs p h =
+    let e : k * b + at + p ≡ k * b + (at + p) = omega arith in
+    stretch-at (k * b + at) w xs p h ∙ ap (λ (q : ℕ). getD xs q 0) e
 
 -- w bytes from `at` on of the block that a place names, k as it was read, end within a slice as long as src
 pub stretch-ends : (b at w : ℕ) {j k src long : ℕ} (places : List ℕ) → k ≡ getD places j 0 → long ≡ src → at + w ≤ b → j < length places → Inside b places src

@@ -1,16 +1,21 @@
--- Blocks added up one after the other: what the sum holds after j of them. Assumes nothing.
+-- Blocks added up one after the other, what the sum holds after j of them; and a block that such sums are added to tile by tile. Assumes nothing.
 use mathlib.Core.Path.{_≡_, refl, sym, ap, ap₂, _∙_}
-use mathlib.Core.List.{List}
+use mathlib.Core.List.{List, _++_}
 use Prim.Native.Nat.{ℕ, _+_, _≤_, _<_}
 use native.Mathlib.Numerals.{add-one}
 use native.Mathlib.Omega.{arith}
-use lib.ListN.{length, getD}
+use borrow.Rule.Slice.PartMut.{putMid}
+use lib.ListN.{length, getD, take, drop, replicate, length-replicate, length-drop, length-append, List·getD-append}
+use lib.Seq.{length-take-le, getD-take}
 use Rattle.base.specs.Seq.{cell}
-use Rattle.base.proofs.Seq.{length-tabulate, getD-tabulate}
-use Rattle.field.specs.Field.{add, mul}
+use Rattle.base.specs.Parts.{Filled}
+use Rattle.base.proofs.Parts.{length-lent, lent-at, filled-part}
+use Rattle.base.proofs.Seq.{length-tabulate, getD-tabulate, zeros-at}
+use Rattle.field.specs.Field.{add, mul, plus}
 use Rattle.field.specs.FiniteSum.{sum}
-use Rattle.field.proofs.Addition.{add-assoc, add-zero-right}
+use Rattle.field.proofs.Addition.{add-assoc, add-zero-left, add-zero-right}
 use Rattle.field.proofs.FiniteSum.{sum-zero, sum-last}
+use Rattle.blocks.proofs.Laws.{plus-length, plus-at}
 use Rattle.products.specs.Blocks.{plusMultiple, combined, Accumulated}
 
 plusMultiple-length : (xs : List ℕ) (c : ℕ) (ys : List ℕ) → length (plusMultiple xs c ys) ≡ length xs
@@ -22,43 +27,99 @@ plusMultiple-at : (xs : List ℕ) (c : ℕ) (ys : List ℕ) (p : ℕ) → p < le
 unfolding plusMultiple
 plusMultiple-at xs c ys p h = getD-tabulate (length xs) _ p h
 
-pub record Summed (src places coeffs : List ℕ) (j : ℕ) (old new : List ℕ) : Type 0 where
-  pub most : j ≤ length places
-  pub same : length new ≡ length old
-  pub sums : (p : ℕ) → p < length old
-      → getD new p 0 ≡ add (getD old p 0) (sum j (λ i. mul (getD coeffs i 0) (cell (length old) src (getD places i 0) p)))
+-- ---- a room of n zeros, of which w bytes are lent
 
-pub summed-none : (src places coeffs old : List ℕ) → Summed src places coeffs 0 old old
-summed-none src places coeffs old =
-    record {
-      most = omega arith;
-      same = refl;
-      sums = λ p h. sym (add-zero-right (getD old p 0)) ∙ ap (add (getD old p 0)) (sym (sum-zero _));
-    }
+pub room-length : (n w : ℕ) → w ≤ n → length (take w (replicate {A = ℕ} n 0)) ≡ w
+room-length n w h = length-take-le w (replicate n 0) (omega (arith, length-replicate {A = ℕ} n 0))
 
-pub summed-more : (src places coeffs : List ℕ) (j : ℕ) (old new part last : List ℕ) → j < length places
-    → ((p : ℕ) → p < length old → getD part p 0 ≡ cell (length old) src (getD places j 0) p)
-    → last ≡ plusMultiple new (getD coeffs j 0) part → Summed src places coeffs j old new → Summed src places coeffs (j + 1) old last
-summed-more src places coeffs j old new part last hj hp e s =
-    record {
-      most = omega arith;
-      same = ap length e ∙ plusMultiple-length new (getD coeffs j 0) part ∙ s .same;
-      sums = λ p h.
-          ap (λ (l : List ℕ). getD l p 0) e ∙ plusMultiple-at new (getD coeffs j 0) part p (omega (arith, s .same))
-          ∙ ap₂ add (s .sums p h) (ap (mul (getD coeffs j 0)) (hp p h)) ∙ add-assoc (getD old p 0) _ _
-          ∙ ap (add (getD old p 0)) (sym (sum-last j _) ∙ ap (λ (k : ℕ). sum k (λ i. mul (getD coeffs i 0) (cell (length old) src (getD places i 0) p))) (sym (add-one j)));
-    }
+-- what came back, with the rest behind it
+pub room-whole : (n w : ℕ) (part : List ℕ) → w ≤ n → length part ≡ length (take w (replicate {A = ℕ} n 0)) → n ≡ length (part ++ drop w (replicate n 0))
+room-whole n w part h e =
+    omega (arith, length-append part (drop w (replicate n 0)), e, room-length n w h, length-drop w (replicate {A = ℕ} n 0), length-replicate {A = ℕ} n 0)
 
-pub summed-all : (src places coeffs : List ℕ) (j : ℕ) (old new : List ℕ) → length places ≤ j → Summed src places coeffs j old new
-    → Accumulated src places coeffs old new
-unfolding combined
-summed-all src places coeffs j old new h s =
-    record {
-      same = s .same;
-      sums = λ p hp.
-          s .sums p hp
-          ∙ ap (λ (k : ℕ). add (getD old p 0) (sum k (λ i. mul (getD coeffs i 0) (cell (length old) src (getD places i 0) p)))) whole;
-    }
-  where
-    whole : j ≡ length places
-    whole = omega (arith, s .most)
+-- ---- one block after the other
+
+module _ (b at : ℕ) (src places coeffs : List ℕ) where
+  -- term i of byte p of the sum
+  abbrev term : ℕ → ℕ → ℕ
+  term p i = mul (getD coeffs i 0) (cell b src (getD places i 0) (at + p))
+
+  pub record Summed (j : ℕ) (old new : List ℕ) : Type 0 where
+    pub most : j ≤ length places
+    pub same : length new ≡ length old
+    pub sums : (p : ℕ) → p < length old → getD new p 0 ≡ add (getD old p 0) (sum j (term p))
+
+  pub summed-none : (old : List ℕ) → Summed 0 old old
+  summed-none old =
+      record {
+        most = omega arith;
+        same = refl;
+        sums = λ p h. sym (add-zero-right (getD old p 0)) ∙ ap (add (getD old p 0)) (sym (sum-zero _));
+      }
+
+  pub summed-more : (j : ℕ) (old new part last : List ℕ) → j < length places
+      → ((p : ℕ) → p < length old → getD part p 0 ≡ cell b src (getD places j 0) (at + p)) → last ≡ plusMultiple new (getD coeffs j 0) part
+      → Summed j old new → Summed (j + 1) old last
+  summed-more j old new part last hj hp e s =
+      record {
+        most = omega arith;
+        same = ap length e ∙ plusMultiple-length new (getD coeffs j 0) part ∙ s .same;
+        sums = λ p h.
+            ap (λ (l : List ℕ). getD l p 0) e ∙ plusMultiple-at new (getD coeffs j 0) part p (omega (arith, s .same))
+            ∙ ap₂ add (s .sums p h) (ap (mul (getD coeffs j 0)) (hp p h)) ∙ add-assoc (getD old p 0) _ _
+            ∙ ap (add (getD old p 0)) (sym (sum-last j _) ∙ ap (λ (k : ℕ). sum k (term p)) (sym (add-one j)));
+      }
+
+  pub summed-all : (j : ℕ) (old new : List ℕ) → length places ≤ j → Summed j old new → Accumulated b at src places coeffs old new
+  unfolding combined
+  summed-all j old new h s =
+      record {
+        same = s .same;
+        sums = λ p hp. s .sums p hp ∙ ap (λ (k : ℕ). add (getD old p 0) (sum k (term p))) whole;
+      }
+    where
+      whole : j ≡ length places
+      whole = omega (arith, s .most)
+
+  -- ---- a tile of w bytes whose sum was formed apart, in a room of n that held zeros
+
+  pub tile-added : (n w : ℕ) (part old new : List ℕ) → w ≡ length old → w ≤ n → Accumulated b at src places coeffs (take w (replicate n 0)) part
+      → new ≡ plus old (part ++ drop w (replicate n 0)) → Accumulated b at src places coeffs old new
+  tile-added n w part old new l h a e =
+      record {
+        same = ap length e ∙ plus-length old _;
+        sums = λ p hp.
+            let hw : p < length (take w (replicate {A = ℕ} n 0)) = omega (arith, room-length n w h) in
+            ap (λ (l : List ℕ). getD l p 0) e ∙ plus-at old (part ++ drop w (replicate n 0)) p hp
+            ∙ ap (add (getD old p 0))
+            (List·getD-append part _ 0 p (omega (arith, a .same)) ∙ a .sums p hw
+            ∙ ap (λ (x : ℕ). add x (combined b src places coeffs (at + p))) (getD-take w (replicate n 0) p 0 (omega arith) ∙ zeros-at n p) ∙ add-zero-left _);
+      }
+
+-- ---- a block, tile by tile
+
+module _ (src places coeffs old : List ℕ) where
+  -- byte p of the block with the sum added
+  abbrev pub total : ℕ → ℕ
+  total p = add (getD old p 0) (combined (length old) src places coeffs p)
+
+  pub tiles-more : (t k n : ℕ) (new part lent : List ℕ) → t + k ≡ n → n ≤ length old → lent ≡ take k (drop t new)
+      → Accumulated (length old) t src places coeffs lent part → Filled total t old new → Filled total n old (putMid t k new part)
+  tiles-more t k n new part lent e le is a s =
+      filled-part total t k n old new part e (omega (arith, s .same)) (a .same ∙ full)
+      (λ q h.
+      a .sums q (omega (arith, full))
+      ∙ ap (λ (x : ℕ). add x (combined (length old) src places coeffs (t + q)))
+      (ap (λ (l : List ℕ). getD l q 0) is ∙ lent-at t k new q h ∙ s .rest (t + q) (omega arith))) s
+    where
+      full : length lent ≡ k
+      full = ap length is ∙ length-lent t k new (omega (arith, s .same))
+
+  pub tiles-all : (t : ℕ) (new : List ℕ) → length old ≤ t → Filled total t old new → Accumulated (length old) 0 src places coeffs old new
+  tiles-all t new h s =
+      record {
+        same = s .same;
+        sums = λ p hp.
+            let e : p ≡ 0 + p = omega arith in
+            s .done p (omega arith) ∙ ap (λ (q : ℕ). add (getD old p 0) (combined (length old) src places coeffs q)) e;
+      }

@@ -57,10 +57,10 @@ plusMultiple xs c ys = tabulate (length xs) (λ p. add (getD xs p 0) (mul c (get
 unfoldable pub combined : ℕ → List ℕ → List ℕ → List ℕ → ℕ → ℕ
 combined b src places coeffs p = sum (length places) (λ j. mul (getD coeffs j 0) (cell b src (getD places j 0) p))
 
--- new is old plus such a sum, of blocks as long as old
-pub record Accumulated (src places coeffs old new : List ℕ) : Type 0 where
+-- new is old plus such a sum's bytes from `at` on
+pub record Accumulated (b at : ℕ) (src places coeffs old new : List ℕ) : Type 0 where
   pub same : length new ≡ length old
-  pub sums : (p : ℕ) → p < length old → getD new p 0 ≡ add (getD old p 0) (combined (length old) src places coeffs p)
+  pub sums : (p : ℕ) → p < length old → getD new p 0 ≡ add (getD old p 0) (combined b src places coeffs (at + p))
 
 -- to the w bytes from `at` on of each block the first k rows of f are added that go to it; all else is as it was
 pub record Spanned (b at w : ℕ) (targets : List ℕ) (f : ℕ → ℕ → ℕ) (k : ℕ) (old new : List ℕ) : Type 0 where

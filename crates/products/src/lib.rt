@@ -1,8 +1,10 @@
 // A matrix of coefficients times blocks: what it is, when it fits its slices, and the product added row by row.
+use base::shorter;
 use base::wide;
 use field::times;
+use words::add_words;
 ghost use mathlib.Core.Path.{_≡_};
-ghost use Prim.Native.Nat.{_≤_, _<_};
+ghost use Prim.Native.Nat.{_+_, _≤_, _<_};
 ghost use lib.ListN.{length};
 ghost use Rattle.base.specs.Decided.{Decided};
 ghost use Rattle.products.specs.Blocks.{Rows, Inside, Fits, Added, plusMultiple, Accumulated};
@@ -43,19 +45,49 @@ pub fn add_rows(
     }
 }
 
-// dst += the sum of the blocks of src at the given places, each times its coefficient. Blocks are as long as dst.
+// dst += the sum of the blocks of src at the given places, each times its coefficient. Blocks are as long as dst. It goes in tiles of at most 256 bytes: that the
+// coefficients are made ready for each tile anew costs little then, and the room for a tile's sum is soon cleared.
 fn accumulate(dst: &mut [u8], src: &[u8], places: &[u8], coeffs: &[u8])
     requires { ⌜ length (now places) ≤ length (now coeffs) ⌝ }
     requires { ⌜ Inside (length (now dst)) (now places) (length (now src)) ⌝ }
-    ensures { λ _. ⌜ Accumulated (now (src .entry)) (now (places .entry)) (now (coeffs .entry)) (now (dst .entry)) (now (dst .exit)) ⌝ }
+    ensures { λ _. ⌜ Accumulated (length (now (dst .entry))) 0 (now (src .entry)) (now (places .entry)) (now (coeffs .entry)) (now (dst .entry)) (now (dst .exit)) ⌝ }
 {
     let b = dst.len();
+    let mut at = 0;
+    while at < b {
+        let end = at + shorter(256, b - at);
+        add_tile(&mut dst[at..end], b, at, src, places, coeffs);
+        at = end;
+    }
+}
+
+// dst, the bytes of a block from `at` on, += those of the sum: this is formed apart, and meets the block a word at a time.
+fn add_tile(dst: &mut [u8], b: usize, at: usize, src: &[u8], places: &[u8], coeffs: &[u8])
+    requires { ⌜ length (now places) ≤ length (now coeffs) ⌝ }
+    requires { ⌜ Inside b (now places) (length (now src)) ⌝ }
+    requires { ⌜ (at + length (now dst) ≤ b) × (length (now dst) ≤ 256) ⌝ }
+    ensures { λ _. ⌜ Accumulated b at (now (src .entry)) (now (places .entry)) (now (coeffs .entry)) (now (dst .entry)) (now (dst .exit)) ⌝ }
+{
+    let w = dst.len();
+    let mut sum = [0u8; 256];
+    add_columns(&mut sum[..w], b, at, src, places, coeffs);
+    add_words(dst, &sum);
+}
+
+// sum += the bytes from `at` on of each block of src at the given places, times its coefficient.
+fn add_columns(sum: &mut [u8], b: usize, at: usize, src: &[u8], places: &[u8], coeffs: &[u8])
+    requires { ⌜ length (now places) ≤ length (now coeffs) ⌝ }
+    requires { ⌜ Inside b (now places) (length (now src)) ⌝ }
+    requires { ⌜ at + length (now sum) ≤ b ⌝ }
+    ensures { λ _. ⌜ Accumulated b at (now (src .entry)) (now (places .entry)) (now (coeffs .entry)) (now (sum .entry)) (now (sum .exit)) ⌝ }
+{
+    let w = sum.len();
     let count = places.len();
     let mut j = 0;
     while j < count {
-        let start = wide(places[j]) * b;
-        let end = start + b;
-        add_multiple(dst, &src[start..end], coeffs[j]);
+        let start = wide(places[j]) * b + at;
+        let end = start + w;
+        add_multiple(sum, &src[start..end], coeffs[j]);
         j += 1;
     }
 }

@@ -4,8 +4,8 @@ use crate::tables::fill_groups;
 use base::shorter;
 use base::wide;
 use blocks::add_block;
-use tiles::add_part;
 use tiles::double_tile;
+use words::add_words;
 ghost use mathlib.Core.Path.{_≡_};
 ghost use Prim.Native.Nat.{ℕ, _+_, _*_, _≤_, _<_};
 ghost use lib.ListN.{length};
@@ -102,7 +102,7 @@ fn add_row(dst: &mut [u8], table: &[u8], groups: usize, picks: &[u8], i: usize)
         add_picked(&mut sum, table, groups, picks, i * 8 + s);
         s += 1;
     }
-    add_part(dst, &sum);
+    add_words(dst, &sum);
 }
 
 // sum += the entry of each group that its pick at place q names. There are at most seven groups; a constant bound lets the compiler unroll the loop.

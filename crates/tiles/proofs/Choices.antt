@@ -27,13 +27,6 @@ use Rattle.products.proofs.Stretches.{stretch, length-stretch, stretch-at}
 use Rattle.tiles.specs.Tiling.{Grouped, columns, tileAt, Raised, Chosen, Tabled}
 use Rattle.tiles.proofs.Groups.{columns-most}
 
--- the bytes of a tile, as the code lends it
-pub stretch-tile : (b at w : ℕ) (src places : List ℕ) (j p : ℕ) → p < w → getD (stretch (getD places j 0 * b + at) w src) p 0 ≡ tileAt b at src places j p
-unfolding cell
-stretch-tile b at w src places j p h =
-    let e : getD places j 0 * b + at + p ≡ getD places j 0 * b + (at + p) = omega arith in
-    stretch-at (getD places j 0 * b + at) w src p h ∙ ap (λ (q : ℕ). getD src q 0) e
-
 pub tile-byte : (b at : ℕ) (src places : List ℕ) → Bytes src → (k p : ℕ) → IsByte (tileAt b at src places k p)
 unfolding cell
 tile-byte b at src places bytes k p = bytes (getD places k 0 * b + (at + p))

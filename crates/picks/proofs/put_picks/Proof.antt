@@ -24,7 +24,7 @@ same-length c = search needs
 returns-3 : tie.Need-returns-3
 returns-3 c =
     record {
-      written = λ e h. c .before .before .put-word .ensures ∙ picks-are _ _ h (c .before .before .before .before .word-of .ensures);
+      written = λ e h. c .before .before .put-word .ensures ∙ picks-are _ _ _ e h (c .before .before .before .before .word-of .ensures);
       kept = λ ne. absurd (ne (omega arith) (omega arith));
     }
 

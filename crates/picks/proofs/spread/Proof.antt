@@ -3,7 +3,8 @@ use Prim.Native.Nat.{ℕ, _+_, _*_, _%_, _^_, _<_}
 use native.Mathlib.Omega.{arith}
 use borrow.Author.Needs.{needs}
 use lib.Bits.{bitAnd, and-le-r}
-use Rattle.picks.specs.Picks.{bit, word}
+use Rattle.words.specs.Words.{word}
+use Rattle.picks.specs.Picks.{bit}
 use Rattle.picks.proofs.Words.{spread-by}
 use Rattle.picks.proofs.spread.Statement.{statement}
 use Rattle.picks.proofs.spread.Tie as tie

@@ -5,7 +5,8 @@ use denote.Ref.{now}
 use native.Mathlib.Omega.{arith}
 use borrow.Author.Needs.{needs}
 use lib.ListN.{length}
-use Rattle.picks.specs.Picks.{word as wordOf, pickOf}
+use Rattle.words.specs.Words.{word as wordOf}
+use Rattle.picks.specs.Picks.{pickOf}
 use Rattle.picks.proofs.Words.{firstPicks, picks-none, picks-more, picks-fit}
 use Rattle.picks.proofs.word_of.Statement.{statement}
 use Rattle.picks.proofs.word_of.Tie as tie

@@ -111,11 +111,11 @@ loop-again c =
           (gathered-none 16 (now (s .table)) (now (s .picks)) (place a) twice (doubled d))),
     )
 
-slice-aggregate-add-part : tie.Need-slice-aggregate-add-part Inv-loop μ-loop
-slice-aggregate-add-part c = sym (full (c .before .before .before))
+slice-aggregate-add-words : tie.Need-slice-aggregate-add-words Inv-loop μ-loop
+slice-aggregate-add-words c = sym (full (c .before .before .before))
 
-add-part-requires : tie.Need-add-part-requires Inv-loop μ-loop
-add-part-requires c κs = search needs
+add-words-requires : tie.Need-add-words-requires Inv-loop μ-loop
+add-words-requires c κs = search needs
 
 same-length : tie.Need-same-length Inv-loop μ-loop
 same-length c = search needs
@@ -125,7 +125,7 @@ returns c =
     let l = c .before .before .before .before .before .before .loop in
     let s = c .before .before .before .before .before .before .before .before .before .before .args in
     let all : l .s ≡ 8 = omega arith in
-    c .before .before .add-part .ensures ∙ ap (plus (now (s .dst))) (l .inv .1 ∙ ap (λ (t : ℕ). tabulate 16 (byBits 16 1 (now (s .table)) (now (s .picks)) (s .i) t)) all)
+    c .before .before .add-words .ensures ∙ ap (plus (now (s .dst))) (l .inv .1 ∙ ap (λ (t : ℕ). tabulate 16 (byBits 16 1 (now (s .table)) (now (s .picks)) (s .i) t)) all)
 
 pub add-short-row-spec : {M : Type 1} → statement M
 add-short-row-spec =
@@ -150,7 +150,7 @@ add-short-row-spec =
     add-s
     loop-less
     loop-again
-    slice-aggregate-add-part
-    add-part-requires
+    slice-aggregate-add-words
+    add-words-requires
     same-length
     returns)

@@ -9,9 +9,9 @@ use lib.ListN.{length, getD}
 use lib.Pow.{pow-mono}
 use Rattle.base.specs.Parts.{putBlock}
 use Rattle.base.proofs.Parts.{length-partOf, putBlock-length}
-use Rattle.products.proofs.Stretches.{stretch-ends, stretch, length-stretch}
+use Rattle.products.proofs.Stretches.{stretch-ends, stretch, length-stretch, stretch-cell}
 use Rattle.tiles.specs.Tiling.{tileAt, Chosen}
-use Rattle.tiles.proofs.Choices.{stretch-tile, tile-byte, chosen-none, chosen-more, chosen-all}
+use Rattle.tiles.proofs.Choices.{tile-byte, chosen-none, chosen-more, chosen-all}
 use Rattle.tiled_products.proofs.tables.fill_group.Statement.{statement}
 use Rattle.tiled_products.proofs.tables.fill_group.Tie as tie
 
@@ -124,7 +124,7 @@ loop-again c =
           (tile-byte (s .b) (s .at) (now (s .src)) (now (s .places)) (λ i. omega (arith, bytes i)))
           (l .t) k (l .half) _ (l .table) _ (omega arith) (l .inv .1)
           (λ p hp. ap (λ (x : ℕ). getD (stretch (x * s .b + s .at) (s .w) (now (s .src))) p 0) (a .wide .ensures)
-          ∙ stretch-tile (s .b) (s .at) (s .w) (now (s .src)) (now (s .places)) (l .t - 1) p hp)
+          ∙ stretch-cell (s .b) (s .at) (s .w) (getD (now (s .places)) (l .t - 1) 0) (now (s .src)) p hp)
           (c .before .before .add-column .ensures) (l .inv .2) _ more,
     )
 
