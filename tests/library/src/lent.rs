@@ -5,11 +5,16 @@ use std::cell::Cell;
 /// The least count of bytes on each side.
 const MARGIN: usize = 64;
 
+/// Buffers are moved by 0 up to this, an odd count of places: so those of a call
+/// that is lent two come to start at every place within a word too.
+const PLACES: usize = 31;
+
 thread_local! {
-    /// Moves each buffer, so that they start at any place within a word.
+    /// The place of the next buffer.
     static TURN: Cell<usize> = const { Cell::new(0) };
 }
 
+/// Bytes to lend.
 pub struct Lent {
     held: Vec<u8>,
     start: usize,
@@ -22,10 +27,18 @@ fn filling(place: usize) -> u8 {
 }
 
 impl Lent {
+    /// At the next place.
     pub fn new(bytes: &[u8]) -> Lent {
-        let turn = TURN.with(|turn| turn.replace((turn.get() + 1) % 32));
-        let (start, length) = (MARGIN + turn, bytes.len());
-        let mut held: Vec<u8> = (0..start + length + MARGIN).map(filling).collect();
+        let place = TURN.with(|turn| turn.replace((turn.get() + 1) % PLACES));
+        Lent::at(bytes, place)
+    }
+
+    /// So far past a boundary of eight bytes.
+    pub fn at(bytes: &[u8], place: usize) -> Lent {
+        let length = bytes.len();
+        let most = MARGIN + 7 + place;
+        let mut held: Vec<u8> = (0..most + length + MARGIN).map(filling).collect();
+        let start = MARGIN + held.as_ptr().align_offset(8) + place;
         held[start..start + length].copy_from_slice(bytes);
         Lent {
             held,

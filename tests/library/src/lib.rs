@@ -5,7 +5,8 @@ mod lent;
 mod library;
 mod make;
 
-pub use library::Library;
+pub use lent::Lent;
+pub use library::{params, Library};
 pub use make::{any_arrangement, right, shapes, spoil, Call};
 
 use reference::cases::{Case, Reference};

@@ -12,7 +12,8 @@ fn size(number: u64) -> usize {
     usize::try_from(number).expect("a size of 64 bits")
 }
 
-fn params(a: &Arrangement) -> Params {
+/// An arrangement as the library has it.
+pub fn params(a: &Arrangement) -> Params {
     Params {
         k: size(a.shape.k),
         r: size(a.shape.r),
