@@ -216,6 +216,49 @@ fn spread(a: &Arrangement, write: u32, differences: &[u8]) -> Vec<u8> {
     record
 }
 
+/// The bytes of one byte place, out of each part or block.
+fn at_place(bytes: &[u8], b: u64, place: u64) -> Vec<u8> {
+    let of_place = bytes.iter().skip(place as usize);
+    of_place.step_by(b as usize).copied().collect()
+}
+
+/// What a difference and a change give for blocks of b bytes is, at each byte
+/// place, what they give for blocks of one byte.
+fn test_places(numbers: &mut Numbers, shape: Shape, b: u64) {
+    let (a, one) = (shape.with(b), shape.with(1));
+    let d = numbers.bytes(shape.k * b);
+    let write = numbers.choice(shape.n, shape.w);
+    let before = numbers.bytes(shape.n * b);
+    let mut after = before.clone();
+    assert_eq!(change(&a, &mut after, &d, write), 0);
+    let mut out = numbers.bytes(shape.w * b);
+    assert_eq!(difference(&a, &d, write, &mut out), 0);
+    for place in 0..b {
+        let d = at_place(&d, b, place);
+        let mut record = at_place(&before, b, place);
+        assert_eq!(change(&one, &mut record, &d, write), 0);
+        assert_eq!(record, at_place(&after, b, place));
+        let mut differences = vec![0; shape.w as usize];
+        assert_eq!(difference(&one, &d, write, &mut differences), 0);
+        assert_eq!(differences, at_place(&out, b, place));
+    }
+}
+
+#[test]
+fn byte_places_are_apart() {
+    let mut numbers = Numbers(20);
+    for shape in [
+        Shape::new(1, 3, 1, 3),
+        Shape::new(1, 2, 2, 3),
+        Shape::new(4, 9, 7, 10),
+        Shape::new(8, 9, 9, 10),
+    ] {
+        for b in [1, 7, 8, 9, 63, 64, 65, 1023, 1024] {
+            test_places(&mut numbers, shape, b);
+        }
+    }
+}
+
 /// Of all slacks one alone gives 00 outside W with this d.
 #[test]
 fn one_slack_is_zero_outside_w() {
