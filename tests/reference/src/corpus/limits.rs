@@ -1,4 +1,5 @@
-//! Files about the limit of 65,535 bytes, and files with large blocks.
+//! Files about the limit of 65,535 bytes, files with large blocks, and files by
+//! the length of their blocks.
 
 use crate::corpus::draft::{all, change, damage, reading, rearrangement, rebuild, Counts, Draft};
 use crate::corpus::rng::Rng;
@@ -15,7 +16,8 @@ pub fn write(store: &mut Store, rng: &mut Rng) -> io::Result<()> {
     cut_openings(store, rng)?;
     many_events(store, rng)?;
     large_blocks(store, rng)?;
-    large_damage(store, rng)
+    large_damage(store, rng)?;
+    block_lengths(store, rng)
 }
 
 /// Adds damages and readings until the file is exactly so long. The blocks are
@@ -219,4 +221,56 @@ fn large_damage(store: &mut Store, rng: &mut Rng) -> io::Result<()> {
         store.put_script("large", &script)?;
     }
     Ok(())
+}
+
+/// Block lengths about a word of eight bytes, about tiles and the largest.
+const LENGTHS: [u64; 22] = [
+    7, 8, 9, 15, 16, 17, 31, 32, 33, 63, 64, 65, 127, 128, 129, 255, 256, 257, 511, 513, 1023, 1024,
+];
+
+/// Changes at these block lengths, with one trap or more to change and one part
+/// or more, and set-ups that are refused by their length.
+fn block_lengths(store: &mut Store, rng: &mut Rng) -> io::Result<()> {
+    for shape in [
+        tight(1, 1, 3),
+        tight(1, 2, 3),
+        tight(1, 9, 9),
+        tight(5, 6, 7),
+        tight(4, 7, 10),
+        Shape::new(4, 9, 7, 10),
+        tight(8, 9, 10),
+        tight(16, 24, 32),
+    ] {
+        for b in [0, 1025] {
+            let mut script = Script::new(rng, shape.with(b));
+            script.push(reading(all(shape.r)));
+            store.put("block-length", &script.draft.bytes())?;
+        }
+        for b in LENGTHS {
+            let mut script = Script::new(rng, shape.with(b));
+            changes(&mut script);
+            store.put_script("block-length", &script)?;
+        }
+    }
+    Ok(())
+}
+
+/// Changes as far as they fit into the limit, from the second on over damage,
+/// with readings between and a rebuild at the end.
+fn changes(script: &mut Script) {
+    let Arrangement { shape, b } = script.now;
+    script.read_some_windows(1);
+    for step in 0..6 {
+        let needed = ((shape.k + 1) * b) as usize + 100;
+        if script.draft.length() + needed > LIMIT {
+            break;
+        }
+        if step == 1 {
+            script.damage();
+        }
+        script.change();
+        script.read_some_windows(2);
+    }
+    script.rebuild();
+    script.read_some_windows(2);
 }
