@@ -5,8 +5,8 @@ use std::cell::Cell;
 /// The least count of bytes on each side.
 const MARGIN: usize = 64;
 
-/// Buffers are moved by 0 up to this, an odd count of places: so those of a call
-/// that is lent two come to start at every place within a word too.
+/// Each buffer is moved by less than this. It is odd, so that both buffers of a
+/// call that is lent two come to start at every place within a word.
 const PLACES: usize = 31;
 
 thread_local! {
