@@ -12,7 +12,7 @@
  * A slice is a pointer and a length in bytes. Its pointer must be valid for that many bytes (and not null, also for length 0), and slices that are written must
  * not overlap others. The pointers node, start and column must be valid, not null, and apart from every slice. No function allocates, keeps a pointer or has
  * any state. Each takes its room on the stack: up to 62 kB (repair), 55 (check and reconfigure, whatever
- * their sizes), 54 (encode), 18 for a decode. */
+ * their sizes), 54 (encode), 19 for a decode. */
 #ifndef JIRVENTS_H
 #define JIRVENTS_H
 
