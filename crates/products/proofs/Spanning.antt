@@ -6,11 +6,10 @@ use Prim.Native.Nat.{ℕ, suc, _+_, _*_, _≤_, _<_}
 use native.Mathlib.Nat.{suc-mul, mul-le-mul-right}
 use native.Mathlib.Omega.{arith}
 use borrow.Rule.Slice.PartMut.{putMid, same-len-mid}
-use lib.ListN.{length, getD, drop, length-drop}
-use lib.Seq.{length-take-le}
+use lib.ListN.{length, getD}
 use Rattle.base.specs.Seq.{cell}
 use Rattle.base.proofs.Cases.{lt-or, eq-or}
-use Rattle.base.proofs.Parts.{put-before, put-in, put-after}
+use Rattle.base.proofs.Parts.{put-before, put-in, put-after, length-lent}
 use Rattle.field.specs.Field.{add}
 use Rattle.field.proofs.Addition.{add-assoc, add-zero-right}
 use Rattle.products.specs.Blocks.{Spanned}
@@ -60,7 +59,7 @@ module _ (b at w : ℕ) (targets : List ℕ) (f : ℕ → ℕ → ℕ) (old : Li
     unfolding last
     spanned-more is s =
         record {
-          same = same-len-mid a k new part (full ∙ sym (length-take-le k (drop a new) (omega (arith, length-drop a new)))) ∙ s .same;
+          same = same-len-mid a k new part (full ∙ sym (length-lent a k new (omega arith))) ∙ s .same;
           done = λ j p hp.
               ⊎-elim
               (λ (e : getD targets t 0 ≡ j). ap (λ (m : ℕ). cell b (putMid a k new part) m (at + p)) (sym e) ∙ within p hp ∙ is p hp

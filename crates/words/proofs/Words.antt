@@ -18,7 +18,7 @@ unfolding word
 word-lt zero f h = omega arith
 word-lt (suc m) f h = omega (arith, h 0, word-lt m (λ s. f (suc s)) (λ s. h (suc s)), pow-suc 256 m)
 
-pub word-ext : (m : ℕ) (f g : ℕ → ℕ) → ((s : ℕ) → f s ≡ g s) → word m f ≡ word m g
+word-ext : (m : ℕ) (f g : ℕ → ℕ) → ((s : ℕ) → f s ≡ g s) → word m f ≡ word m g
 unfolding word
 word-ext zero f g h = refl
 word-ext (suc m) f g h = ap₂ (λ (x y : ℕ). x + 256 * y) (h 0) (word-ext m (λ s. f (suc s)) (λ s. g (suc s)) (λ s. h (suc s)))

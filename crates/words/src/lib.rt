@@ -2,12 +2,13 @@
 use base::shorter;
 use blocks::add_block;
 ghost use mathlib.Core.Path.{_≡_};
+ghost use Prim.Native.Nat.{_<_};
 ghost use lib.Bits.{bitXor};
 ghost use lib.ListN.{length};
 ghost use Rattle.field.specs.Field.{plus};
 ghost use Rattle.words.specs.Words.{wordOf, bytesOf};
 
-// dst += src by words of eight bytes, and then what is left, up to seven bytes, one by one. A byte that src does not have counts as 00.
+// dst += src by words of eight bytes, and then what is left, up to seven bytes. A byte that src does not have counts as 00.
 pub fn add_words(dst: &mut [u8], src: &[u8])
     ensures { λ _. ⌜ now (dst .exit) ≡ plus (now (dst .entry)) (now (src .entry)) ⌝ }
 {
@@ -19,7 +20,15 @@ pub fn add_words(dst: &mut [u8], src: &[u8])
         add_word(&mut dst[p..end], &src[p..end]);
         p = end;
     }
-    add_block(&mut dst[p..count], &src[p..count]);
+    add_tail(&mut dst[p..count], &src[p..count]);
+}
+
+// The bytes that no word takes: at most seven += those of src.
+fn add_tail(dst: &mut [u8], src: &[u8])
+    requires { ⌜ length (now dst) < 8 ⌝ }
+    ensures { λ _. ⌜ now (dst .exit) ≡ plus (now (dst .entry)) (now (src .entry)) ⌝ }
+{
+    add_block(dst, src);
 }
 
 // Eight bytes += eight others, as one word.

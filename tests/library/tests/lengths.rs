@@ -18,15 +18,19 @@ fn lengths() -> impl Iterator<Item = u64> {
 /// more than one block; up to eight blocks of four parts; more than these.
 fn shapes() -> [Shape; 12] {
     [
+        // One block.
         Shape::new(1, 1, 1, 1),
         Shape::new(1, 3, 1, 3),
+        // More than one, few bytes in all at small lengths.
         Shape::new(5, 6, 6, 7),
         Shape::new(1, 1, 9, 9),
+        // Up to eight blocks of four parts.
         Shape::new(1, 2, 2, 3),
         Shape::new(4, 7, 7, 10),
         Shape::new(4, 9, 7, 10),
         Shape::new(4, 8, 8, 12),
         Shape::new(1, 2, 3, 3),
+        // More than these.
         Shape::new(8, 9, 9, 10),
         Shape::new(16, 24, 24, 32),
         Shape::new(16, 32, 24, 32),
@@ -240,7 +244,7 @@ fn differences(sent: &Sent, from: usize, to: usize) -> Vec<u8> {
     out
 }
 
-/// One trap, whose point is 01: the difference is d itself. Every two bytes are
+/// One trap, whose point is 01, in one row: the difference is d itself. Every two bytes are
 /// added at every place of a word, of a tail alone and of a word with a tail, and
 /// their sum is their exclusive or.
 #[test]

@@ -5,14 +5,14 @@ use denote.Ref.{now}
 use native.Mathlib.Omega.{arith}
 use borrow.Author.Needs.{needs}
 use lib.ListN.{length}
-use Rattle.words.specs.Words.{word as wordOf}
+use Rattle.words.specs.Words.{word as wordFrom}
 use Rattle.picks.specs.Picks.{pickOf}
 use Rattle.picks.proofs.Words.{firstPicks, picks-none, picks-more, picks-fit}
 use Rattle.picks.proofs.word_of.Statement.{statement}
 use Rattle.picks.proofs.word_of.Tie as tie
 
 abbrev Inv-loop : tie.InvT-loop
-Inv-loop coeffs word₀ k₀ word k = (k ≤ length coeffs) × (word ≡ wordOf 8 (firstPicks coeffs k))
+Inv-loop coeffs word₀ k₀ word k = (k ≤ length coeffs) × (word ≡ wordFrom 8 (firstPicks coeffs k))
 
 abbrev μ-loop : tie.MeasureT-loop
 μ-loop coeffs word₀ k₀ word k = length coeffs - k
@@ -51,7 +51,7 @@ loop-again c =
 
 returns : tie.Need-returns Inv-loop μ-loop
 unfolding pickOf
-returns c = c .before .loop .inv .1 ∙ ap (λ (n : ℕ). wordOf 8 (firstPicks (now (c .before .before .before .args .coeffs)) n)) (omega arith)
+returns c = c .before .loop .inv .1 ∙ ap (λ (n : ℕ). wordFrom 8 (firstPicks (now (c .before .before .before .args .coeffs)) n)) (omega arith)
 
 pub word-of-spec : {M : Type 1} → statement M
 word-of-spec =

@@ -4,7 +4,7 @@ use Prim.Native.Nat.{ℕ, _+_, _-_, _*_, _≤_}
 use denote.Ref.{now}
 use native.Mathlib.Omega.{arith}
 use borrow.Author.Needs.{needs}
-use lib.ListN.{length, getD}
+use lib.ListN.{length}
 use Rattle.base.specs.Seq.{cell}
 use Rattle.products.proofs.Stretches.{stretch-cell, stretch-ends}
 use Rattle.products.proofs.Summing.{Summed, summed-none, summed-more, summed-all}

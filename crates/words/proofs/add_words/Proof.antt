@@ -1,5 +1,5 @@
--- After p turns, p a multiple of eight, the first p bytes are the sums, the others as they were; then the last are added. Assumes nothing.
-use mathlib.Core.Path.{_≡_, refl, _∙_}
+-- When p bytes are done, p a multiple of eight, the first p are the sums, the others as they were; at the end fewer than eight are left. Assumes nothing.
+use mathlib.Core.Path.{_≡_, refl}
 use Prim.Native.Nat.{_+_, _-_, _%_, _≤_}
 use denote.Ref.{now}
 use native.Mathlib.Omega.{arith}
@@ -67,39 +67,39 @@ loop-again c =
           (c .before .before .add-word .ensures) (l .inv .2),
     )
 
-sub-add-block : tie.Need-sub-add-block Inv-loop μ-loop
-sub-add-block c = search needs
+sub-add-tail : tie.Need-sub-add-tail Inv-loop μ-loop
+sub-add-tail c = search needs
 
-part-add-block-start : tie.Need-part-add-block-start Inv-loop μ-loop
-part-add-block-start c = search needs
+part-add-tail-start : tie.Need-part-add-tail-start Inv-loop μ-loop
+part-add-tail-start c = search needs
 
-part-add-block-end : tie.Need-part-add-block-end Inv-loop μ-loop
-part-add-block-end c = search needs
+part-add-tail-end : tie.Need-part-add-tail-end Inv-loop μ-loop
+part-add-tail-end c = search needs
 
-sub-add-block-2 : tie.Need-sub-add-block-2 Inv-loop μ-loop
-sub-add-block-2 c = search needs
+sub-add-tail-2 : tie.Need-sub-add-tail-2 Inv-loop μ-loop
+sub-add-tail-2 c = search needs
 
-part-add-block-start-2 : tie.Need-part-add-block-start-2 Inv-loop μ-loop
-part-add-block-start-2 c = search needs
+part-add-tail-start-2 : tie.Need-part-add-tail-start-2 Inv-loop μ-loop
+part-add-tail-start-2 c = search needs
 
-part-add-block-end-2 : tie.Need-part-add-block-end-2 Inv-loop μ-loop
-part-add-block-end-2 c = search needs
+part-add-tail-end-2 : tie.Need-part-add-tail-end-2 Inv-loop μ-loop
+part-add-tail-end-2 c = search needs
 
-add-block-requires : tie.Need-add-block-requires Inv-loop μ-loop
-add-block-requires c κs = search needs
+add-tail-requires : tie.Need-add-tail-requires Inv-loop μ-loop
+add-tail-requires c κs = search needs
 
 -- with what is left, the sums of all bytes that both have
 all : (c : tie.After-slice-known3 Inv-loop μ-loop)
     → let a = c .before .before .before .before .before .before in
     let s = a .before .before .before .before .args in
     Filled (λ q. add (getD (now (s .dst)) q 0) (getD (now (s .src)) q 0)) (a .before .shorter .result) (now (s .dst))
-    (putMid (a .loop .p) (a .before .shorter .result - a .loop .p) (a .loop .dst) (c .before .before .add-block .last .0))
+    (putMid (a .loop .p) (a .before .shorter .result - a .loop .p) (a .loop .dst) (c .before .before .add-tail .last .0))
 all c =
     let a = c .before .before .before .before .before .before in
     let s = a .before .before .before .before .args in
     let n = a .before .shorter .result in
     added-part (now (s .dst)) (now (s .src)) (a .loop .p) (n - a .loop .p) n (a .loop .dst) _ (omega arith) (omega arith) (omega arith)
-    (c .before .before .add-block .ensures) (a .loop .inv .2)
+    (c .before .before .add-tail .ensures) (a .loop .inv .2)
 
 same-length : tie.Need-same-length Inv-loop μ-loop
 same-length c = all c .same
@@ -131,12 +131,12 @@ add-words-spec =
     add-word-requires
     loop-less
     loop-again
-    sub-add-block
-    part-add-block-start
-    part-add-block-end
-    sub-add-block-2
-    part-add-block-start-2
-    part-add-block-end-2
-    add-block-requires
+    sub-add-tail
+    part-add-tail-start
+    part-add-tail-end
+    sub-add-tail-2
+    part-add-tail-start-2
+    part-add-tail-end-2
+    add-tail-requires
     same-length
     returns)
