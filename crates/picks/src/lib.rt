@@ -19,12 +19,12 @@ pub fn put_picks(picks: &mut [u8], coeffs: &[u8])
     if 8 < coeffs.len() {
         return;
     }
-    let word = word_of(coeffs);
+    let word = picks_word(coeffs);
     put_word(picks, word);
 }
 
 // The eight picks of at most eight coefficients, as the bytes of a word: that of the highest bit is the lowest byte.
-fn word_of(coeffs: &[u8]) -> u64
+fn picks_word(coeffs: &[u8]) -> u64
     requires { ⌜ length (now coeffs) ≤ 8 ⌝ }
     ensures { λ r. ⌜ r ≡ word 8 (pickOf (now (coeffs .entry))) ⌝ }
 {

@@ -12,8 +12,8 @@ returns c = record { written = λ e h. absurd (omega arith); kept = λ ne. refl 
 returns-2 : tie.Need-returns-2
 returns-2 c = record { written = λ e h. absurd (omega arith); kept = λ ne. refl }
 
-word-of-requires : tie.Need-word-of-requires
-word-of-requires c κs = search needs
+picks-word-requires : tie.Need-picks-word-requires
+picks-word-requires c κs = search needs
 
 put-word-requires : tie.Need-put-word-requires
 put-word-requires c κs = search needs
@@ -24,10 +24,10 @@ same-length c = search needs
 returns-3 : tie.Need-returns-3
 returns-3 c =
     record {
-      written = λ e h. c .before .before .put-word .ensures ∙ picks-are _ _ _ e h (c .before .before .before .before .word-of .ensures);
+      written = λ e h. c .before .before .put-word .ensures ∙ picks-are _ _ _ e h (c .before .before .before .before .picks-word .ensures);
       kept = λ ne. absurd (ne (omega arith) (omega arith));
     }
 
 pub put-picks-spec : {M : Type 1} → statement M
 put-picks-spec =
-    tie.close (tie.spec returns returns-2 word-of-requires put-word-requires same-length returns-3)
+    tie.close (tie.spec returns returns-2 picks-word-requires put-word-requires same-length returns-3)

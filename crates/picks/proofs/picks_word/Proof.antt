@@ -8,8 +8,8 @@ use lib.ListN.{length}
 use Rattle.words.specs.Words.{word as wordFrom}
 use Rattle.picks.specs.Picks.{pickOf}
 use Rattle.picks.proofs.Words.{firstPicks, picks-none, picks-more, picks-fit}
-use Rattle.picks.proofs.word_of.Statement.{statement}
-use Rattle.picks.proofs.word_of.Tie as tie
+use Rattle.picks.proofs.picks_word.Statement.{statement}
+use Rattle.picks.proofs.picks_word.Tie as tie
 
 abbrev Inv-loop : tie.InvT-loop
 Inv-loop coeffs word₀ k₀ word k = (k ≤ length coeffs) × (word ≡ wordFrom 8 (firstPicks coeffs k))
@@ -53,8 +53,8 @@ returns : tie.Need-returns Inv-loop μ-loop
 unfolding pickOf
 returns c = c .before .loop .inv .1 ∙ ap (λ (n : ℕ). wordFrom 8 (firstPicks (now (c .before .before .before .args .coeffs)) n)) (omega arith)
 
-pub word-of-spec : {M : Type 1} → statement M
-word-of-spec =
+pub picks-word-spec : {M : Type 1} → statement M
+picks-word-spec =
     tie.close
     (tie.spec
     Inv-loop
