@@ -10,8 +10,8 @@ use lib.ListN.{length, getD}
 use Rattle.base.specs.Seq.{tabulate}
 use Rattle.base.proofs.Test.{allBelow, below}
 use Rattle.field.specs.Field.{IsByte}
-use Rattle.words.specs.Words.{word, bytesOf}
-use Rattle.words.proofs.Words.{word-lt, bytes-word}
+use Rattle.words.specs.Words.{word, lowBytes}
+use Rattle.words.proofs.Words.{word-lt, low-bytes-word}
 use Rattle.picks.specs.Picks.{bit, number, pickOf}
 use Rattle.picks.proofs.Digits.{bit-lt, number-below}
 
@@ -50,6 +50,6 @@ pub picks-fit : (coeffs : List ℕ) (k : ℕ) → k ≤ 8 → word 8 (firstPicks
 picks-fit coeffs k h = word-lt 8 (firstPicks coeffs k) (λ s. number-byte k _ (λ j. bit-lt s _) h)
 
 -- the bytes of such a word
-pub picks-are : (coeffs : List ℕ) (m w : ℕ) → m ≡ 8 → length coeffs ≤ 8 → w ≡ word 8 (pickOf coeffs) → bytesOf m w ≡ tabulate 8 (pickOf coeffs)
+pub picks-are : (coeffs : List ℕ) (m w : ℕ) → m ≡ 8 → length coeffs ≤ 8 → w ≡ word 8 (pickOf coeffs) → lowBytes m w ≡ tabulate 8 (pickOf coeffs)
 unfolding pickOf
-picks-are coeffs m w e h ew = ap₂ bytesOf e ew ∙ bytes-word 8 (firstPicks coeffs (length coeffs)) (λ s. number-byte (length coeffs) _ (λ k. bit-lt s _) h)
+picks-are coeffs m w e h ew = ap₂ lowBytes e ew ∙ low-bytes-word 8 (firstPicks coeffs (length coeffs)) (λ s. number-byte (length coeffs) _ (λ k. bit-lt s _) h)

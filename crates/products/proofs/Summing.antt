@@ -1,16 +1,17 @@
--- Blocks added up one after the other, what the sum holds after j of them; and a block that such sums are added to tile by tile. Assumes nothing.
+-- Blocks added up one after the other, what the sum holds after j of them; and a block that such sums are added to stretch by stretch. Assumes nothing.
 use mathlib.Core.Path.{_≡_, refl, sym, ap, ap₂, _∙_}
 use mathlib.Core.List.{List, _++_}
 use Prim.Native.Nat.{ℕ, _+_, _≤_, _<_}
 use native.Mathlib.Numerals.{add-one}
 use native.Mathlib.Omega.{arith}
 use borrow.Rule.Slice.PartMut.{putMid}
-use lib.ListN.{length, getD, take, drop, replicate, length-replicate, length-drop, length-append, List·getD-append}
-use lib.Seq.{length-take-le, getD-take}
+use lib.ListN.{length, getD, take, drop, replicate, length-replicate, List·getD-append}
+use lib.Seq.{length-take-le, length-front}
 use Rattle.base.specs.Seq.{cell}
 use Rattle.base.specs.Parts.{Filled}
+use Rattle.base.proofs.Buffers.{zeros-front}
 use Rattle.base.proofs.Parts.{length-lent, lent-at, filled-part}
-use Rattle.base.proofs.Seq.{length-tabulate, getD-tabulate, zeros-at}
+use Rattle.base.proofs.Seq.{length-tabulate, getD-tabulate}
 use Rattle.field.specs.Field.{add, mul, plus}
 use Rattle.field.specs.FiniteSum.{sum}
 use Rattle.field.proofs.Addition.{add-assoc, add-zero-left, add-zero-right}
@@ -33,9 +34,8 @@ pub room-length : (n w : ℕ) → w ≤ n → length (take w (replicate {A = ℕ
 room-length n w h = length-take-le w (replicate n 0) (omega (arith, length-replicate {A = ℕ} n 0))
 
 -- what came back, with the rest behind it
-pub room-whole : (n w : ℕ) (part : List ℕ) → w ≤ n → length part ≡ length (take w (replicate {A = ℕ} n 0)) → n ≡ length (part ++ drop w (replicate n 0))
-room-whole n w part h e =
-    omega (arith, length-append part (drop w (replicate n 0)), e, room-length n w h, length-drop w (replicate {A = ℕ} n 0), length-replicate {A = ℕ} n 0)
+pub room-whole : (n w : ℕ) (part : List ℕ) → length part ≡ length (take w (replicate {A = ℕ} n 0)) → n ≡ length (part ++ drop w (replicate n 0))
+room-whole n w part e = sym (length-front (replicate n 0) part w e ∙ length-replicate {A = ℕ} n 0)
 
 -- ---- one block after the other
 
@@ -81,42 +81,42 @@ module _ (b at : ℕ) (src places coeffs : List ℕ) where
       whole : j ≡ length places
       whole = omega (arith, s .most)
 
-  -- ---- a tile of w bytes whose sum was formed apart, in a room of n that held zeros
+  -- ---- a stretch of a block, whose sum was formed apart, in a room of n that held zeros
 
-  pub tile-added : (n w : ℕ) (part old new : List ℕ) → w ≡ length old → w ≤ n → Accumulated b at src places coeffs (take w (replicate n 0)) part
-      → new ≡ plus old (part ++ drop w (replicate n 0)) → Accumulated b at src places coeffs old new
-  tile-added n w part old new l h a e =
+  pub stretch-added : (n : ℕ) (part old new : List ℕ) → length old ≤ n → Accumulated b at src places coeffs (take (length old) (replicate n 0)) part
+      → new ≡ plus old (part ++ drop (length old) (replicate n 0)) → Accumulated b at src places coeffs old new
+  stretch-added n part old new h a e =
       record {
         same = ap length e ∙ plus-length old _;
         sums = λ p hp.
-            let hw : p < length (take w (replicate {A = ℕ} n 0)) = omega (arith, room-length n w h) in
-            ap (λ (l : List ℕ). getD l p 0) e ∙ plus-at old (part ++ drop w (replicate n 0)) p hp
+            let hw : p < length (take (length old) (replicate {A = ℕ} n 0)) = omega (arith, room-length n (length old) h) in
+            ap (λ (l : List ℕ). getD l p 0) e ∙ plus-at old (part ++ drop (length old) (replicate n 0)) p hp
             ∙ ap (add (getD old p 0))
             (List·getD-append part _ 0 p (omega (arith, a .same)) ∙ a .sums p hw
-            ∙ ap (λ (x : ℕ). add x (combined b src places coeffs (at + p))) (getD-take w (replicate n 0) p 0 (omega arith) ∙ zeros-at n p) ∙ add-zero-left _);
+            ∙ ap (λ (x : ℕ). add x (combined b src places coeffs (at + p))) (zeros-front (length old) n (omega (arith, length-replicate {A = ℕ} n 0)) p) ∙ add-zero-left _);
       }
 
--- ---- a block, tile by tile
+-- ---- a block, stretch by stretch
 
 module _ (src places coeffs old : List ℕ) where
   -- byte p of the block with the sum added
   abbrev pub total : ℕ → ℕ
   total p = add (getD old p 0) (combined (length old) src places coeffs p)
 
-  pub tiles-more : (t k n : ℕ) (new part lent : List ℕ) → t + k ≡ n → n ≤ length old → lent ≡ take k (drop t new)
-      → Accumulated (length old) t src places coeffs lent part → Filled total t old new → Filled total n old (putMid t k new part)
-  tiles-more t k n new part lent e le is a s =
+  pub stretches-more : (t k n : ℕ) (new part : List ℕ) → t + k ≡ n → n ≤ length old → Accumulated (length old) t src places coeffs (take k (drop t new)) part
+      → Filled total t old new → Filled total n old (putMid t k new part)
+  stretches-more t k n new part e le a s =
       filled-part total t k n old new part e (omega (arith, s .same)) (a .same ∙ full)
       (λ q h.
       a .sums q (omega (arith, full))
       ∙ ap (λ (x : ℕ). add x (combined (length old) src places coeffs (t + q)))
-      (ap (λ (l : List ℕ). getD l q 0) is ∙ lent-at t k new q h ∙ s .rest (t + q) (omega arith))) s
+      (lent-at t k new q h ∙ s .rest (t + q) (omega arith))) s
     where
-      full : length lent ≡ k
-      full = ap length is ∙ length-lent t k new (omega (arith, s .same))
+      full : length (take k (drop t new)) ≡ k
+      full = length-lent t k new (omega (arith, s .same))
 
-  pub tiles-all : (t : ℕ) (new : List ℕ) → length old ≤ t → Filled total t old new → Accumulated (length old) 0 src places coeffs old new
-  tiles-all t new h s =
+  pub stretches-all : (t : ℕ) (new : List ℕ) → length old ≤ t → Filled total t old new → Accumulated (length old) 0 src places coeffs old new
+  stretches-all t new h s =
       record {
         same = s .same;
         sums = λ p hp.

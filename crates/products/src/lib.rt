@@ -45,8 +45,8 @@ pub fn add_rows(
     }
 }
 
-// dst += the sum of the blocks of src at the given places, each times its coefficient. Blocks are as long as dst. It goes in tiles of at most 256 bytes: that the
-// coefficients are made ready for each tile anew costs little then, and the room for a tile's sum is soon cleared.
+// dst += the sum of the blocks of src at the given places, each times its coefficient. Blocks are as long as dst. It goes in stretches of at most 256 bytes: that
+// the multiples of a coefficient are found anew for each of them costs little then, and the room for its sum is soon cleared.
 fn accumulate(dst: &mut [u8], src: &[u8], places: &[u8], coeffs: &[u8])
     requires { ⌜ length (now places) ≤ length (now coeffs) ⌝ }
     requires { ⌜ Inside (length (now dst)) (now places) (length (now src)) ⌝ }
@@ -56,13 +56,13 @@ fn accumulate(dst: &mut [u8], src: &[u8], places: &[u8], coeffs: &[u8])
     let mut at = 0;
     while at < b {
         let end = at + shorter(256, b - at);
-        add_tile(&mut dst[at..end], b, at, src, places, coeffs);
+        add_stretch(&mut dst[at..end], b, at, src, places, coeffs);
         at = end;
     }
 }
 
 // dst, the bytes of a block from `at` on, += those of the sum: this is formed apart, and meets the block a word at a time.
-fn add_tile(dst: &mut [u8], b: usize, at: usize, src: &[u8], places: &[u8], coeffs: &[u8])
+fn add_stretch(dst: &mut [u8], b: usize, at: usize, src: &[u8], places: &[u8], coeffs: &[u8])
     requires { ⌜ length (now places) ≤ length (now coeffs) ⌝ }
     requires { ⌜ Inside b (now places) (length (now src)) ⌝ }
     requires { ⌜ (at + length (now dst) ≤ b) × (length (now dst) ≤ 256) ⌝ }

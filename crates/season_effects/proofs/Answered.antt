@@ -4,8 +4,8 @@ use mathlib.Core.Path.{_≡_, refl, sym, _∙_, subst}
 use mathlib.Core.List.{List}
 use Prim.Native.Nat.{ℕ, _*_}
 use native.Mathlib.Omega.{arith}
-use lib.ListN.{length, drop, replicate, length-drop, length-replicate}
-use lib.Seq.{length-take-le}
+use lib.ListN.{length, replicate, length-replicate}
+use Rattle.base.proofs.Parts.{length-lent}
 use Rattle.gates.specs.Gates.{updateGate, repairGate, damageGate, decodeGate, reconfigureGate}
 use Rattle.ledger.specs.Ledger.{Held, Step, updated, repaired, reconfigured, decoded, damaged}
 use Rattle.season_file.specs.File.{bytesOf}
@@ -17,8 +17,7 @@ use Rattle.season_effects.specs.Events.{listed}
 use Rattle.season_effects.specs.Effects.{Stretch, InFull}
 
 pub stretch-length : (input : List ℕ) (s : Span) (count : ℕ) → Stretch (length input) s count → length (bytesOf input s) ≡ count
-stretch-length input s count h =
-    length-take-le (s .count) (drop (s .at) input) (omega (arith, h .inside, length-drop (s .at) input)) ∙ h .counted
+stretch-length input s count h = length-lent (s .at) (s .count) input (h .inside) ∙ h .counted
 
 -- the gate that its call's post-condition cites, on the lengths of what it is lent
 abbrev pub gate : Held → List ℕ → Event → ℕ

@@ -102,7 +102,18 @@ fn add_row(dst: &mut [u8], table: &[u8], groups: usize, picks: &[u8], i: usize)
         add_picked(&mut sum, table, groups, picks, i * 8 + s);
         s += 1;
     }
-    add_words(dst, &sum);
+    add_sum(dst, &sum);
+}
+
+// dst += a row's sum. Both arms are the same, but in the first the compiler knows how many words there are, and need not go word by word.
+fn add_sum(dst: &mut [u8], sum: &[u8])
+    ensures { λ _. ⌜ now (dst .exit) ≡ plus (now (dst .entry)) (now (sum .entry)) ⌝ }
+{
+    if dst.len() == sum.len() {
+        add_words(dst, sum);
+        return;
+    }
+    add_words(dst, sum);
 }
 
 // sum += the entry of each group that its pick at place q names. There are at most seven groups; a constant bound lets the compiler unroll the loop.

@@ -17,8 +17,8 @@ pub fn double_tile(x: &mut [u8])
     }
 }
 
-// dst += src; a byte that src does not have counts as 00, as in add_block. Where the two are not as long as each other, add_block is lent a copy of src as long as a tile, so
-// that its loop has a constant length. More than 64 bytes are no tile, and are added as they are.
+// dst += src; a byte that src does not have counts as 00, as in add_block. Where the two are not as long as each other, add_block is lent a copy of src of 64 bytes, so that
+// with a dst of as many its loop has a constant length. More than 64 bytes are no tile, and are added as they are.
 pub fn add_part(dst: &mut [u8], src: &[u8])
     ensures { λ _. ⌜ now (dst .exit) ≡ plus (now (dst .entry)) (now (src .entry)) ⌝ }
 {

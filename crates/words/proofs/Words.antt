@@ -11,7 +11,7 @@ use Rattle.base.specs.Seq.{tabulate}
 use Rattle.base.proofs.Seq.{tabulate-ext}
 use Rattle.field.specs.Field.{IsByte, Bytes, add, plus}
 use Rattle.field.proofs.Addition.{add-byte}
-use Rattle.words.specs.Words.{word, wordOf, bytesOf}
+use Rattle.words.specs.Words.{word, wordOf, lowBytes}
 
 pub word-lt : (m : ℕ) (f : ℕ → ℕ) → ((s : ℕ) → IsByte (f s)) → word m f < 256 ^ m
 unfolding word
@@ -38,9 +38,9 @@ word-byte (suc m) f (suc s) h lt =
     ∙ word-byte m (λ s. f (suc s)) s (λ s. h (suc s)) (le-of-suc-le-suc lt)
 
 -- a word has the bytes that it was made of
-pub bytes-word : (m : ℕ) (f : ℕ → ℕ) → ((s : ℕ) → IsByte (f s)) → bytesOf m (word m f) ≡ tabulate m f
-unfolding bytesOf
-bytes-word m f h = tabulate-ext m _ _ (λ s hs. word-byte m f s h hs)
+pub low-bytes-word : (m : ℕ) (f : ℕ → ℕ) → ((s : ℕ) → IsByte (f s)) → lowBytes m (word m f) ≡ tabulate m f
+unfolding lowBytes
+low-bytes-word m f h = tabulate-ext m _ _ (λ s hs. word-byte m f s h hs)
 
 word-sum : (m : ℕ) (f g : ℕ → ℕ) → ((s : ℕ) → IsByte (f s)) → ((s : ℕ) → IsByte (g s)) → add (word m f) (word m g) ≡ word m (λ s. add (f s) (g s))
 unfolding word add
@@ -53,12 +53,12 @@ word-sum (suc m) f g hf hg =
     ∙ omega arith
 
 -- Document 02, 2026-02: "for any sixteen bytes, the sum of their two words holds the eight byte sums". For as many bytes as there are.
-pub sum-holds : (xs ys : List ℕ) → Bytes xs → Bytes ys → length ys ≡ length xs → bytesOf (length xs) (add (wordOf xs) (wordOf ys)) ≡ plus xs ys
+pub sum-holds : (xs ys : List ℕ) → Bytes xs → Bytes ys → length ys ≡ length xs → lowBytes (length xs) (add (wordOf xs) (wordOf ys)) ≡ plus xs ys
 unfolding wordOf plus
 sum-holds xs ys hx hy e =
-    ap (bytesOf (length xs))
+    ap (lowBytes (length xs))
     (ap (λ (m : ℕ). add (word (length xs) (λ s. getD xs s 0)) (word m (λ s. getD ys s 0))) e ∙ word-sum (length xs) (λ s. getD xs s 0) (λ s. getD ys s 0) hx hy)
-    ∙ bytes-word (length xs) (λ s. add (getD xs s 0) (getD ys s 0)) (λ s. add-byte _ _ (hx s) (hy s))
+    ∙ low-bytes-word (length xs) (λ s. add (getD xs s 0) (getD ys s 0)) (λ s. add-byte _ _ (hx s) (hy s))
 
 -- ---- read from the last byte to the first
 
@@ -84,8 +84,9 @@ pub word-all : (n : ℕ) (xs : List ℕ) → length xs ≡ n → word n (last n 
 unfolding wordOf
 word-all n xs e = ap (λ (m : ℕ). word m (last n xs n)) (sym e) ∙ word-ext (length xs) _ _ (λ t. ap (λ (q : ℕ). getD xs q 0) (omega arith))
 
-pub word-fits : (n s : ℕ) (xs : List ℕ) → Bytes xs → s ≤ n → word s (last n xs s) < 256 ^ n
-word-fits n s xs h le = omega (arith, word-lt s (last n xs s) (λ t. h (n - s + t)), below)
+-- a word of fewer than n bytes, as one of n, has room for one byte more
+pub word-room : (n s : ℕ) (xs : List ℕ) → Bytes xs → s < n → word s (last n xs s) * 256 + 256 ≤ 256 ^ n
+word-room n s xs h lt = omega (arith, word-lt s (last n xs s) (λ t. h (n - s + t)), pow-suc 256 s, below)
   where
-    below : 256 ^ s ≤ 256 ^ n
-    below = pow-le-pow-right (omega arith) le
+    below : 256 ^ suc s ≤ 256 ^ n
+    below = pow-le-pow-right (omega arith) lt

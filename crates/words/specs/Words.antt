@@ -14,5 +14,5 @@ unfoldable pub wordOf : List ℕ → ℕ
 wordOf xs = word (length xs) (λ s. getD xs s 0)
 
 -- the lowest m bytes of a word
-unfoldable pub bytesOf : ℕ → ℕ → List ℕ
-bytesOf m w = tabulate m (λ s. w / 256 ^ s % 256)
+unfoldable pub lowBytes : ℕ → ℕ → List ℕ
+lowBytes m w = tabulate m (λ s. w / 256 ^ s % 256)

@@ -6,7 +6,7 @@ ghost use Prim.Native.Nat.{_<_};
 ghost use lib.Bits.{bitXor};
 ghost use lib.ListN.{length};
 ghost use Rattle.field.specs.Field.{plus};
-ghost use Rattle.words.specs.Words.{wordOf, bytesOf};
+ghost use Rattle.words.specs.Words.{wordOf, lowBytes};
 
 // dst += src by words of eight bytes, and then what is left, up to seven bytes. A byte that src does not have counts as 00.
 pub fn add_words(dst: &mut [u8], src: &[u8])
@@ -64,9 +64,9 @@ fn word_of(bytes: &[u8]) -> u64
     word
 }
 
-// bytes := those of a word, the lowest first; where there are more than eight, 00 behind them.
+// bytes := those of a word, the lowest first: as many as there is room for, and 00 behind all eight.
 pub fn put_word(bytes: &mut [u8], word: u64)
-    ensures { λ _. ⌜ now (bytes .exit) ≡ bytesOf (length (now (bytes .entry))) word ⌝ }
+    ensures { λ _. ⌜ now (bytes .exit) ≡ lowBytes (length (now (bytes .entry))) word ⌝ }
 {
     let count = bytes.len();
     let mut rest = word;

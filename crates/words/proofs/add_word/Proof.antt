@@ -6,7 +6,7 @@ use borrow.Author.Needs.{needs}
 use lib.Bits.{bitXor}
 use lib.ListN.{length}
 use Rattle.field.specs.Field.{add}
-use Rattle.words.specs.Words.{bytesOf}
+use Rattle.words.specs.Words.{lowBytes}
 use Rattle.words.proofs.Words.{sum-holds}
 use Rattle.words.proofs.add_word.Statement.{statement}
 use Rattle.words.proofs.add_word.Tie as tie
@@ -33,7 +33,7 @@ returns c =
     let w = a .before in
     let known = w .before .before .before in
     let s = known .before .before in
-    c .before .before .put-word .ensures ∙ ap (bytesOf (length (now (s .args .dst)))) (a .sum-of .ensures ∙ ap₂ bitXor (w .before .word-of .ensures) (w .word-of2 .ensures))
+    c .before .before .put-word .ensures ∙ ap (lowBytes (length (now (s .args .dst)))) (a .sum-of .ensures ∙ ap₂ bitXor (w .before .word-of .ensures) (w .word-of2 .ensures))
     ∙ sum-holds (now (s .args .dst)) (now (s .args .src)) (λ i. omega (arith, known .before .slice-known .given i)) (λ i. omega (arith, known .shared-slice-known .given i))
     (omega (arith, s .pre .0, s .pre .1))
 

@@ -6,7 +6,7 @@ use borrow.Author.Needs.{needs}
 use lib.ListN.{length}
 use Rattle.base.specs.Parts.{Filled}
 use Rattle.base.proofs.Filled.{filled-none, filled-more, filled-all}
-use Rattle.words.specs.Words.{bytesOf}
+use Rattle.words.specs.Words.{lowBytes}
 use Rattle.words.proofs.Words.{next-byte}
 use Rattle.words.proofs.put_word.Statement.{statement}
 use Rattle.words.proofs.put_word.Tie as tie
@@ -42,7 +42,7 @@ same-length : tie.Need-same-length Inv-loop μ-loop
 same-length c = c .before .loop .inv .1 .same
 
 returns : tie.Need-returns Inv-loop μ-loop
-unfolding bytesOf
+unfolding lowBytes
 returns c = filled-all _ _ _ _ (omega arith) (c .before .loop .inv .1)
 
 pub put-word-spec : {M : Type 1} → statement M

@@ -3,11 +3,13 @@ use mathlib.Core.Path.{_≡_, ap, _∙_}
 use mathlib.Core.List.{List}
 use Prim.Native.Nat.{ℕ, _+_, _-_, _*_, _^_, _≤_, _<_}
 use denote.Ref.{now}
+use mir.Syntax.{w8, w64}
+use mir.Val.{Fits}
 use native.Mathlib.Omega.{arith}
 use borrow.Author.Needs.{needs}
 use lib.ListN.{getD}
 use Rattle.words.specs.Words.{word as wordFrom}
-use Rattle.words.proofs.Words.{last, word-none, word-more, word-all, word-fits}
+use Rattle.words.proofs.Words.{last, word-none, word-more, word-all, word-room}
 use Rattle.words.proofs.word_of.Statement.{statement}
 use Rattle.words.proofs.word_of.Tie as tie
 
@@ -26,8 +28,15 @@ sub-byte c = search needs
 shared-slice-read-byte : tie.Need-shared-slice-read-byte Inv-loop μ-loop
 shared-slice-read-byte c = search needs
 
+-- where a word has room for one byte more, any byte fits
+byte-fits : {x : ℕ} → Fits w8 x → Fits w64 x
+byte-fits h = record { fits = omega (arith, h .fits) }
+
+word-byte-fits : (word x : ℕ) → word * 256 + 256 ≤ 2 ^ 64 → Fits w8 x → Fits w64 (word * 256 + x)
+word-byte-fits word x room h = record { fits = omega (arith, h .fits) }
+
 cast-byte : tie.Need-cast-byte Inv-loop μ-loop
-cast-byte c = record { fits = omega (arith, c .shared-slice-known .given (7 - c .before .before .loop .s)) }
+cast-byte c = byte-fits (c .shared-slice-known .given _)
 
 module _ (c : tie.After-shared-slice-known Inv-loop μ-loop) where
   abbrev bytes : List ℕ
@@ -36,17 +45,14 @@ module _ (c : tie.After-shared-slice-known Inv-loop μ-loop) where
   abbrev s : ℕ
   s = c .before .before .loop .s
 
-  more : c .before .before .loop .word * 256 + getD bytes (7 - s) 0 ≡ wordFrom (s + 1) (last 8 bytes (s + 1))
-  more = ap (λ (w : ℕ). w * 256 + getD bytes (7 - s) 0) (c .before .before .loop .inv .1) ∙ word-more 8 s bytes (omega arith)
-
-  fits : c .before .before .loop .word * 256 + getD bytes (7 - s) 0 < 2 ^ 64
-  fits = omega (arith, more, word-fits 8 (s + 1) bytes (λ i. omega (arith, c .shared-slice-known .given i)) (omega arith))
+  room : c .before .before .loop .word * 256 + 256 ≤ 2 ^ 64
+  room = omega (arith, c .before .before .loop .inv .1, word-room 8 s bytes (λ i. omega (arith, c .shared-slice-known .given i)) (omega arith))
 
 mul-word : tie.Need-mul-word Inv-loop μ-loop
-mul-word c = omega (arith, fits c)
+mul-word c = omega (arith, room c)
 
 add-word : tie.Need-add-word Inv-loop μ-loop
-add-word c = omega (arith, fits c)
+add-word c = word-byte-fits _ _ (room c) (c .shared-slice-known .given _)
 
 add-s : tie.Need-add-s Inv-loop μ-loop
 add-s c = search needs
@@ -55,7 +61,9 @@ loop-less : tie.Need-loop-less Inv-loop μ-loop
 loop-less c = search needs
 
 loop-again : tie.Need-loop-again Inv-loop μ-loop
-loop-again c = (omega arith, more c)
+loop-again c =
+    let l = c .before .before .loop in
+    (omega arith, ap (λ (w : ℕ). w * 256 + getD (bytes c) (7 - l .s) 0) (l .inv .1) ∙ word-more 8 (l .s) (bytes c) (omega arith))
 
 returns : tie.Need-returns Inv-loop μ-loop
 returns c =

@@ -58,11 +58,11 @@ loop-again c =
     let l = c .before .before .before .before .before .before .before .loop in
     (omega arith, bits-more _ _ _ _ _ (l .s) _ _ _ (l .inv .1) (c .before .before .before .before .double-tile .ensures) (c .before .add-picked .ensures))
 
-slice-aggregate-add-words : tie.Need-slice-aggregate-add-words Inv-loop μ-loop
-slice-aggregate-add-words c = sym (full (c .before .before .before))
+slice-aggregate-add-sum : tie.Need-slice-aggregate-add-sum Inv-loop μ-loop
+slice-aggregate-add-sum c = sym (full (c .before .before .before))
 
-add-words-requires : tie.Need-add-words-requires Inv-loop μ-loop
-add-words-requires c κs = search needs
+add-sum-requires : tie.Need-add-sum-requires Inv-loop μ-loop
+add-sum-requires c κs = search needs
 
 same-length : tie.Need-same-length Inv-loop μ-loop
 same-length c = search needs
@@ -72,7 +72,7 @@ returns c =
     let l = c .before .before .before .before .before .before .loop in
     let s = c .before .before .before .before .before .before .before .before .before .before .args in
     let all : l .s ≡ 8 = omega arith in
-    c .before .before .add-words .ensures ∙ ap (plus (now (s .dst))) (l .inv .1 ∙ ap (λ (t : ℕ). tabulate 64 (byBits 64 (s .groups) (now (s .table)) (now (s .picks)) (s .i) t)) all)
+    c .before .before .add-sum .ensures ∙ ap (plus (now (s .dst))) (l .inv .1 ∙ ap (λ (t : ℕ). tabulate 64 (byBits 64 (s .groups) (now (s .table)) (now (s .picks)) (s .i) t)) all)
 
 pub add-row-spec : {M : Type 1} → statement M
 add-row-spec =
@@ -90,7 +90,7 @@ add-row-spec =
     add-s
     loop-less
     loop-again
-    slice-aggregate-add-words
-    add-words-requires
+    slice-aggregate-add-sum
+    add-sum-requires
     same-length
     returns)
