@@ -105,7 +105,7 @@ fn add_row(dst: &mut [u8], table: &[u8], groups: usize, picks: &[u8], i: usize)
     add_sum(dst, &sum);
 }
 
-// dst += a row's sum. Both arms are the same, but in the first the compiler knows how many words there are, and need not go word by word.
+// dst += a row's sum. Both arms do the same, but in the first, that of a whole tile, the compiler knows how many words there are, and makes vectors of them.
 fn add_sum(dst: &mut [u8], sum: &[u8])
     ensures { λ _. ⌜ now (dst .exit) ≡ plus (now (dst .entry)) (now (sum .entry)) ⌝ }
 {

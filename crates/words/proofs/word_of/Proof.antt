@@ -28,7 +28,7 @@ sub-byte c = search needs
 shared-slice-read-byte : tie.Need-shared-slice-read-byte Inv-loop μ-loop
 shared-slice-read-byte c = search needs
 
--- where a word has room for one byte more, any byte fits
+-- any byte fits, alone and in a word that has room for one more
 byte-fits : {x : ℕ} → Fits w8 x → Fits w64 x
 byte-fits h = record { fits = omega (arith, h .fits) }
 
