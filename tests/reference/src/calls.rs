@@ -1,13 +1,20 @@
-//! The calls of document 01, as request 2026-01 of document 02 has them. Each
-//! gives its number first; a refusal writes nothing.
+//! The calls of document 01, as requests 2026-01 and 2026-03 of document 02 have
+//! them. Each gives its number first; a refusal writes nothing.
 
 use crate::blocks::{add_to, Block};
 use crate::gate::{self, Arrangement, RearrangementLengths, Shape};
 use crate::pair::{names, place, traps_of, traps_outside, Pair};
 
-/// Set-up: message and slack in, record written.
-pub fn setup(a: &Arrangement, message: &[u8], slack: &[u8], record: &mut [u8]) -> u64 {
-    let number = gate::gate_setup(a, message.len(), slack.len(), record.len());
+/// Set-up: message and slack in, record written, every serial 0.
+pub fn setup(
+    a: &Arrangement,
+    message: &[u8],
+    slack: &[u8],
+    record: &mut [u8],
+    serials: &mut [u32],
+) -> u64 {
+    let (message_len, slack_len) = (message.len(), slack.len());
+    let number = gate::gate_setup(a, message_len, slack_len, record.len(), serials.len());
     if number != 0 {
         return number;
     }
@@ -15,6 +22,7 @@ pub fn setup(a: &Arrangement, message: &[u8], slack: &[u8], record: &mut [u8]) -
     for trap in 1..=a.shape.n {
         write_block(record, trap, &pair.block(trap));
     }
+    serials.fill(0);
     0
 }
 
@@ -55,32 +63,69 @@ pub fn difference(a: &Arrangement, d: &[u8], write: u32, out: &mut [u8]) -> u64 
     0
 }
 
-/// Change: adds the differences to W's blocks.
-pub fn change(a: &Arrangement, record: &mut [u8], d: &[u8], write: u32) -> u64 {
-    let number = gate::gate_change(a, record.len(), d.len(), write);
+/// What a change is given besides the record and its serials.
+#[derive(Clone, Copy, Debug)]
+pub struct Sending<'a> {
+    pub d: &'a [u8],
+    pub write: u32,
+    pub serial: u32,
+    /// The traps that the radio reaches: any bits.
+    pub reached: u32,
+}
+
+/// Change: a trap of W that is reached adds its difference and takes the serial,
+/// only if the serial is above its own.
+pub fn change(a: &Arrangement, record: &mut [u8], serials: &mut [u32], given: &Sending) -> u64 {
+    let Sending {
+        d, write, serial, ..
+    } = *given;
+    let number = gate::gate_change(a, record.len(), serials.len(), d.len(), write, serial);
     if number != 0 {
         return number;
     }
-    for (trap, block) in traps_of(write).iter().zip(differences(a, d, write)) {
-        add_to(&mut record[place(*trap, block.len())], &block);
+    for (trap, block) in traps_of(write).into_iter().zip(differences(a, d, write)) {
+        let own = &mut serials[trap as usize - 1];
+        if names(given.reached, trap) && serial > *own {
+            add_to(&mut record[place(trap, block.len())], &block);
+            *own = serial;
+        }
     }
     0
 }
 
-/// Rebuild: L's blocks become those of R's pair.
-pub fn rebuild(a: &Arrangement, record: &mut [u8], read: u32, lost: u32) -> u64 {
-    let number = gate::gate_rebuild(a, record.len(), read, lost);
+/// The highest serial in R, all of its traps counted.
+fn highest(serials: &[u32], read: u32) -> u32 {
+    let mut of_read: Vec<u32> = traps_of(read)
+        .iter()
+        .map(|&t| serials[t as usize - 1])
+        .collect();
+    of_read.sort_unstable();
+    of_read[of_read.len() - 1]
+}
+
+/// Rebuild: L's blocks become those of R's pair, and L's serials R's highest.
+pub fn rebuild(
+    a: &Arrangement,
+    record: &mut [u8],
+    serials: &mut [u32],
+    read: u32,
+    lost: u32,
+) -> u64 {
+    let number = gate::gate_rebuild(a, record.len(), serials.len(), read, lost);
     if number != 0 {
         return number;
     }
     let pair = Pair::through(a, record, &traps_of(read));
+    let serial = highest(serials, read);
     for trap in traps_of(lost) {
         write_block(record, trap, &pair.block(trap));
+        serials[trap as usize - 1] = serial;
     }
     0
 }
 
-/// What a rearrangement is given besides the old record and the new buffer.
+/// What a rearrangement is given besides the old record and serials and the new
+/// ones.
 #[derive(Clone, Copy, Debug)]
 pub struct Move<'a> {
     pub read: u32,
@@ -89,24 +134,38 @@ pub struct Move<'a> {
     pub message: &'a [u8],
 }
 
-/// Rearrangement: the new record goes to a buffer of its own.
-pub fn rearrangement(a: &Arrangement, record: &[u8], given: &Move, new: &mut [u8]) -> u64 {
+/// Rearrangement: the new record and its serials go to buffers of their own. A
+/// copied trap keeps its serial; a newly written one takes R's highest.
+pub fn rearrangement(
+    a: &Arrangement,
+    record: &[u8],
+    serials: &[u32],
+    given: &Move,
+    new: &mut [u8],
+    new_serials: &mut [u32],
+) -> u64 {
     let lengths = RearrangementLengths {
         record: record.len(),
+        serials: serials.len(),
         message: given.message.len(),
         new: new.len(),
+        new_serials: new_serials.len(),
     };
     let number = gate::gate_rearrangement(a, &given.to, given.read, given.write, &lengths);
     if number != 0 {
         return number;
     }
     let pair = new_pair(a, record, given);
+    let serial = highest(serials, given.read);
     for trap in 1..=given.to.n {
+        let index = trap as usize - 1;
         let copied = trap <= a.shape.n && !names(given.write, trap);
         if copied {
             write_block(new, trap, &record[place(trap, a.b as usize)]);
+            new_serials[index] = serials[index];
         } else {
             write_block(new, trap, &pair.block(trap));
+            new_serials[index] = serial;
         }
     }
     0

@@ -1,19 +1,47 @@
 //! One call with all its arguments, to be put to any implementation.
 
-use crate::calls::Move;
+use crate::calls::{Move, Sending};
 use crate::{is_sum_of_others, Arrangement, Shape};
 
-/// An implementation of the calls. Each gives its number and writes its buffer
+/// An implementation of the calls. Each gives its number and writes its buffers
 /// in place.
 pub trait Calls {
     /// The column goes with 15 only.
     fn inverse(&self, side: u64, matrix: &[u8], out: &mut [u8]) -> (u64, Option<u64>);
-    fn setup(&self, a: &Arrangement, message: &[u8], slack: &[u8], record: &mut [u8]) -> u64;
+    fn setup(
+        &self,
+        a: &Arrangement,
+        message: &[u8],
+        slack: &[u8],
+        record: &mut [u8],
+        serials: &mut [u32],
+    ) -> u64;
     fn reading(&self, a: &Arrangement, record: &[u8], read: u32, out: &mut [u8]) -> u64;
     fn difference(&self, a: &Arrangement, d: &[u8], write: u32, out: &mut [u8]) -> u64;
-    fn change(&self, a: &Arrangement, record: &mut [u8], d: &[u8], write: u32) -> u64;
-    fn rebuild(&self, a: &Arrangement, record: &mut [u8], read: u32, lost: u32) -> u64;
-    fn rearrangement(&self, a: &Arrangement, record: &[u8], given: &Move, new: &mut [u8]) -> u64;
+    fn change(
+        &self,
+        a: &Arrangement,
+        record: &mut [u8],
+        serials: &mut [u32],
+        given: &Sending,
+    ) -> u64;
+    fn rebuild(
+        &self,
+        a: &Arrangement,
+        record: &mut [u8],
+        serials: &mut [u32],
+        read: u32,
+        lost: u32,
+    ) -> u64;
+    fn rearrangement(
+        &self,
+        a: &Arrangement,
+        record: &[u8],
+        serials: &[u32],
+        given: &Move,
+        new: &mut [u8],
+        new_serials: &mut [u32],
+    ) -> u64;
     fn check(&self, a: &Arrangement, record: &[u8]) -> (u64, Option<u64>);
     fn view<'r>(&self, a: &Arrangement, record: &'r [u8], trap: u64) -> (u64, &'r [u8]);
 }
@@ -26,8 +54,15 @@ impl Calls for Reference {
         crate::inverse(side, matrix, out)
     }
 
-    fn setup(&self, a: &Arrangement, message: &[u8], slack: &[u8], record: &mut [u8]) -> u64 {
-        crate::setup(a, message, slack, record)
+    fn setup(
+        &self,
+        a: &Arrangement,
+        message: &[u8],
+        slack: &[u8],
+        record: &mut [u8],
+        serials: &mut [u32],
+    ) -> u64 {
+        crate::setup(a, message, slack, record, serials)
     }
 
     fn reading(&self, a: &Arrangement, record: &[u8], read: u32, out: &mut [u8]) -> u64 {
@@ -38,16 +73,37 @@ impl Calls for Reference {
         crate::difference(a, d, write, out)
     }
 
-    fn change(&self, a: &Arrangement, record: &mut [u8], d: &[u8], write: u32) -> u64 {
-        crate::change(a, record, d, write)
+    fn change(
+        &self,
+        a: &Arrangement,
+        record: &mut [u8],
+        serials: &mut [u32],
+        given: &Sending,
+    ) -> u64 {
+        crate::change(a, record, serials, given)
     }
 
-    fn rebuild(&self, a: &Arrangement, record: &mut [u8], read: u32, lost: u32) -> u64 {
-        crate::rebuild(a, record, read, lost)
+    fn rebuild(
+        &self,
+        a: &Arrangement,
+        record: &mut [u8],
+        serials: &mut [u32],
+        read: u32,
+        lost: u32,
+    ) -> u64 {
+        crate::rebuild(a, record, serials, read, lost)
     }
 
-    fn rearrangement(&self, a: &Arrangement, record: &[u8], given: &Move, new: &mut [u8]) -> u64 {
-        crate::rearrangement(a, record, given, new)
+    fn rearrangement(
+        &self,
+        a: &Arrangement,
+        record: &[u8],
+        serials: &[u32],
+        given: &Move,
+        new: &mut [u8],
+        new_serials: &mut [u32],
+    ) -> u64 {
+        crate::rearrangement(a, record, serials, given, new, new_serials)
     }
 
     fn check(&self, a: &Arrangement, record: &[u8]) -> (u64, Option<u64>) {
@@ -72,6 +128,7 @@ pub enum Case {
         message: Vec<u8>,
         slack: Vec<u8>,
         record: Vec<u8>,
+        serials: Vec<u32>,
     },
     Reading {
         a: Arrangement,
@@ -88,23 +145,29 @@ pub enum Case {
     Change {
         a: Arrangement,
         record: Vec<u8>,
+        serials: Vec<u32>,
         d: Vec<u8>,
         write: u32,
+        serial: u32,
+        reached: u32,
     },
     Rebuild {
         a: Arrangement,
         record: Vec<u8>,
+        serials: Vec<u32>,
         read: u32,
         lost: u32,
     },
     Rearrangement {
         a: Arrangement,
         record: Vec<u8>,
+        serials: Vec<u32>,
         read: u32,
         to: Shape,
         write: u32,
         message: Vec<u8>,
         new: Vec<u8>,
+        new_serials: Vec<u32>,
     },
     Check {
         a: Arrangement,
@@ -123,6 +186,8 @@ pub struct Outcome {
     pub number: u64,
     /// What the buffer holds; of a view, the part.
     pub bytes: Vec<u8>,
+    /// What the serials are; of a rearrangement, the new ones.
+    pub serials: Vec<u32>,
     /// Check's trap.
     pub trap: Option<u64>,
     /// Of the inverse: 15 came with a column that is a sum of multiples of the
@@ -135,6 +200,7 @@ impl Outcome {
         Outcome {
             number,
             bytes,
+            serials: Vec::new(),
             trap: None,
             column_right: true,
         }
@@ -159,9 +225,14 @@ impl Case {
                 message,
                 slack,
                 record,
+                serials,
             } => {
-                let mut record = record.clone();
-                Outcome::new(calls.setup(a, message, slack, &mut record), record)
+                let (mut record, mut serials) = (record.clone(), serials.clone());
+                let number = calls.setup(a, message, slack, &mut record, &mut serials);
+                Outcome {
+                    serials,
+                    ..Outcome::new(number, record)
+                }
             }
             Case::Reading {
                 a,
@@ -179,38 +250,62 @@ impl Case {
             Case::Change {
                 a,
                 record,
+                serials,
                 d,
                 write,
+                serial,
+                reached,
             } => {
-                let mut record = record.clone();
-                Outcome::new(calls.change(a, &mut record, d, *write), record)
+                let (mut record, mut serials) = (record.clone(), serials.clone());
+                let given = Sending {
+                    d,
+                    write: *write,
+                    serial: *serial,
+                    reached: *reached,
+                };
+                let number = calls.change(a, &mut record, &mut serials, &given);
+                Outcome {
+                    serials,
+                    ..Outcome::new(number, record)
+                }
             }
             Case::Rebuild {
                 a,
                 record,
+                serials,
                 read,
                 lost,
             } => {
-                let mut record = record.clone();
-                Outcome::new(calls.rebuild(a, &mut record, *read, *lost), record)
+                let (mut record, mut serials) = (record.clone(), serials.clone());
+                let number = calls.rebuild(a, &mut record, &mut serials, *read, *lost);
+                Outcome {
+                    serials,
+                    ..Outcome::new(number, record)
+                }
             }
             Case::Rearrangement {
                 a,
                 record,
+                serials: old,
                 read,
                 to,
                 write,
                 message,
                 new,
+                new_serials,
             } => {
-                let mut new = new.clone();
+                let (mut new, mut serials) = (new.clone(), new_serials.clone());
                 let given = Move {
                     read: *read,
                     to: *to,
                     write: *write,
                     message,
                 };
-                Outcome::new(calls.rearrangement(a, record, &given, &mut new), new)
+                let number = calls.rearrangement(a, record, old, &given, &mut new, &mut serials);
+                Outcome {
+                    serials,
+                    ..Outcome::new(number, new)
+                }
             }
             Case::Check { a, record } => {
                 let (number, trap) = calls.check(a, record);

@@ -83,10 +83,14 @@ pub fn ask_new_shape(s: &Shape) -> u64 {
     ask_shape(s, 10)
 }
 
-/// Question 6: each pair is a length and the count of blocks it must hold.
-pub fn ask_lengths(b: u64, lengths: &[(usize, u64)]) -> u64 {
-    let exact = |&(length, count): &(usize, u64)| length as u64 == count * b;
-    ask(lengths.iter().all(exact), 6)
+/// A length, and how many it must be: blocks, or serials.
+pub type Length = (usize, u64);
+
+/// Question 6, for slices of blocks and slices of serials.
+pub fn ask_lengths(b: u64, blocks: &[Length], serials: &[Length]) -> u64 {
+    let bytes = blocks.iter().map(|&(length, count)| (length, count * b));
+    let mut all = bytes.chain(serials.iter().copied());
+    ask(all.all(|(length, exact)| length as u64 == exact), 6)
 }
 
 /// Question 7: each pair is a choice and the n it may name traps up to.
@@ -111,14 +115,26 @@ pub fn ask_trap(trap: u64, n: u64) -> u64 {
     ask((1..=n).contains(&trap), 10)
 }
 
+/// Question 24.
+pub fn ask_serial(serial: u32) -> u64 {
+    ask(serial > 0, 24)
+}
+
 /// Set-up: 1 to 5, 6.
-pub fn gate_setup(a: &Arrangement, message: usize, slack: usize, record: usize) -> u64 {
+pub fn gate_setup(
+    a: &Arrangement,
+    message: usize,
+    slack: usize,
+    record: usize,
+    serials: usize,
+) -> u64 {
     let number = ask_arrangement(a);
     if number != 0 {
         return number;
     }
     let s = a.shape;
-    ask_lengths(a.b, &[(message, s.k), (slack, s.l()), (record, s.n)])
+    let blocks = [(message, s.k), (slack, s.l()), (record, s.n)];
+    ask_lengths(a.b, &blocks, &[(serials, s.n)])
 }
 
 /// Check, and the first part of view: 1 to 5, 6.
@@ -127,7 +143,7 @@ pub fn gate_record(a: &Arrangement, record: usize) -> u64 {
     if number != 0 {
         return number;
     }
-    ask_lengths(a.b, &[(record, a.shape.n)])
+    ask_lengths(a.b, &[(record, a.shape.n)], &[])
 }
 
 /// Reading: 1 to 5, 6, 7, 8.
@@ -138,7 +154,7 @@ pub fn gate_reading(a: &Arrangement, record: usize, read: u32, out: usize) -> u6
     }
     let s = a.shape;
     first(&[
-        ask_lengths(a.b, &[(record, s.n), (out, s.k)]),
+        ask_lengths(a.b, &[(record, s.n), (out, s.k)], &[]),
         ask_within(&[(read, s.n)]),
         ask_sizes(&[(read, s.r)]),
     ])
@@ -152,35 +168,43 @@ pub fn gate_difference(a: &Arrangement, d: usize, write: u32, out: usize) -> u64
     }
     let s = a.shape;
     first(&[
-        ask_lengths(a.b, &[(d, s.k), (out, s.w)]),
+        ask_lengths(a.b, &[(d, s.k), (out, s.w)], &[]),
         ask_within(&[(write, s.n)]),
         ask_sizes(&[(write, s.w)]),
     ])
 }
 
-/// Change: 1 to 5, 6, 7, 8.
-pub fn gate_change(a: &Arrangement, record: usize, d: usize, write: u32) -> u64 {
+/// Change: 1 to 5, 6, 7, 8, 24.
+pub fn gate_change(
+    a: &Arrangement,
+    record: usize,
+    serials: usize,
+    d: usize,
+    write: u32,
+    serial: u32,
+) -> u64 {
     let number = ask_arrangement(a);
     if number != 0 {
         return number;
     }
     let s = a.shape;
     first(&[
-        ask_lengths(a.b, &[(record, s.n), (d, s.k)]),
+        ask_lengths(a.b, &[(record, s.n), (d, s.k)], &[(serials, s.n)]),
         ask_within(&[(write, s.n)]),
         ask_sizes(&[(write, s.w)]),
+        ask_serial(serial),
     ])
 }
 
 /// Rebuild: 1 to 5, 6, 7, 8, 9.
-pub fn gate_rebuild(a: &Arrangement, record: usize, read: u32, lost: u32) -> u64 {
+pub fn gate_rebuild(a: &Arrangement, record: usize, serials: usize, read: u32, lost: u32) -> u64 {
     let number = ask_arrangement(a);
     if number != 0 {
         return number;
     }
     let s = a.shape;
     first(&[
-        ask_lengths(a.b, &[(record, s.n)]),
+        ask_lengths(a.b, &[(record, s.n)], &[(serials, s.n)]),
         ask_within(&[(read, s.n), (lost, s.n)]),
         ask_sizes(&[(read, s.r)]),
         ask_apart(read, lost),
@@ -193,11 +217,13 @@ pub fn gate_view(a: &Arrangement, record: usize, trap: u64) -> u64 {
     first(&[number, ask_trap(trap, a.shape.n)])
 }
 
-/// The lengths of the three slices lent to a rearrangement.
+/// The lengths of the slices lent to a rearrangement.
 pub struct RearrangementLengths {
     pub record: usize,
+    pub serials: usize,
     pub message: usize,
     pub new: usize,
+    pub new_serials: usize,
 }
 
 /// Rearrangement: 1 to 5, 11 to 14, 6, 7, 8.
@@ -215,8 +241,9 @@ pub fn gate_rearrangement(
     let record = (lengths.record, a.shape.n);
     let message = (lengths.message, to.k);
     let new = (lengths.new, to.n);
+    let serials = [(lengths.serials, a.shape.n), (lengths.new_serials, to.n)];
     first(&[
-        ask_lengths(a.b, &[record, message, new]),
+        ask_lengths(a.b, &[record, message, new], &serials),
         ask_within(&[(read, a.shape.n), (write, to.n)]),
         ask_sizes(&[(read, a.shape.r), (write, to.w)]),
     ])

@@ -1,6 +1,6 @@
 //! The season program: a file of a set-up and its events, a line for each.
 
-use crate::calls::{self, Move};
+use crate::calls::{self, Move, Sending};
 use crate::gate::{ask_arrangement, ask_new_shape, ask_trap, Arrangement, Shape};
 use crate::pair::place;
 use std::io::{self, Write};
@@ -130,6 +130,7 @@ fn read_move<'a>(input: &mut Input<'a>, b: u64) -> Result<Move<'a>, u64> {
 struct State {
     arrangement: Arrangement,
     record: Vec<u8>,
+    serials: Vec<u32>,
 }
 
 /// An answer, and the message if the event was an accepted reading.
@@ -139,25 +140,37 @@ impl State {
     /// The set-up's number, and the state it leaves.
     fn open(opening: &Opening) -> (u64, State) {
         let a = opening.arrangement;
-        let length = if ask_arrangement(&a) == 0 {
-            a.shape.n * a.b
+        let traps = if ask_arrangement(&a) == 0 {
+            a.shape.n
         } else {
             0
         };
         let mut state = State {
             arrangement: a,
-            record: vec![0; length as usize],
+            record: vec![0; (traps * a.b) as usize],
+            serials: vec![0; traps as usize],
         };
-        let number = calls::setup(&a, opening.message, opening.slack, &mut state.record);
+        let (record, serials) = (&mut state.record, &mut state.serials);
+        let number = calls::setup(&a, opening.message, opening.slack, record, serials);
         (number, state)
     }
 
-    fn try_event(&mut self, event: &Event) -> Answer {
+    /// Tries the event of this number, which serves as a change's serial.
+    fn try_event(&mut self, number: u64, event: &Event) -> Answer {
         let a = self.arrangement;
+        let (record, serials) = (&mut self.record, &mut self.serials);
         match event {
-            Event::Change { write, d } => (calls::change(&a, &mut self.record, d, *write), None),
+            Event::Change { write, d } => {
+                let given = Sending {
+                    d,
+                    write: *write,
+                    serial: number as u32,
+                    reached: *write,
+                };
+                (calls::change(&a, record, serials, &given), None)
+            }
             Event::Rebuild { read, lost } => {
-                (calls::rebuild(&a, &mut self.record, *read, *lost), None)
+                (calls::rebuild(&a, record, serials, *read, *lost), None)
             }
             Event::Damage { trap, block } => (self.damage(*trap, block), None),
             Event::Reading { read } => self.reading(*read),
@@ -183,11 +196,14 @@ impl State {
     fn rearrange(&mut self, given: &Move) -> u64 {
         let a = self.arrangement;
         let good = ask_new_shape(&given.to) == 0;
-        let length = if good { given.to.n * a.b } else { 0 };
-        let mut new = vec![0; length as usize];
-        let number = calls::rearrangement(&a, &self.record, given, &mut new);
+        let traps = if good { given.to.n } else { 0 };
+        let mut new = vec![0; (traps * a.b) as usize];
+        let mut serials = vec![0; traps as usize];
+        let (record, old) = (&self.record, &self.serials);
+        let number = calls::rearrangement(&a, record, old, given, &mut new, &mut serials);
         if number == 0 {
             self.record = new;
+            self.serials = serials;
             self.arrangement = given.to.with(a.b);
         }
         number
@@ -250,7 +266,7 @@ fn run_events(
             Ok(event) => event,
             Err(fault) => return print_fault(out, number, kind, fault),
         };
-        print(out, number, kind, &state.try_event(&event))?;
+        print(out, number, kind, &state.try_event(number, &event))?;
     }
     if input.rest.is_empty() {
         return Ok(());

@@ -1,7 +1,8 @@
 //! Files of calls, a line each: the call, its arguments as name=value, an arrow,
-//! the answer, and what the buffer holds after it.
+//! the answer, and what the buffers hold after it.
 
 use crate::cases::{Calls, Case, Outcome};
+use crate::pair::traps_of;
 use crate::{Arrangement, Shape};
 use std::collections::BTreeMap;
 
@@ -42,6 +43,16 @@ impl<'a> Fields<'a> {
         from_hex(text).ok_or_else(|| format!("{name} is not in hex"))
     }
 
+    fn serial(&self, name: &str) -> Parsed<u32> {
+        let text = self.text(name)?;
+        text.parse().map_err(|_| format!("{name} is no serial"))
+    }
+
+    fn serials(&self, name: &str) -> Parsed<Vec<u32>> {
+        let text = self.text(name)?;
+        from_list(text).ok_or_else(|| format!("{name} are no serials"))
+    }
+
     fn shape(&self, mark: &str) -> Parsed<Shape> {
         let number = |name: &str| self.number(&format!("{name}{mark}"));
         Ok(Shape::new(
@@ -68,6 +79,7 @@ impl<'a> Fields<'a> {
                 message: self.bytes("message")?,
                 slack: self.bytes("slack")?,
                 record: self.bytes("record")?,
+                serials: self.serials("serials")?,
             },
             "reading" => Case::Reading {
                 a: self.arrangement()?,
@@ -84,23 +96,29 @@ impl<'a> Fields<'a> {
             "change" => Case::Change {
                 a: self.arrangement()?,
                 record: self.bytes("record")?,
+                serials: self.serials("serials")?,
                 d: self.bytes("d")?,
                 write: self.choice("W")?,
+                serial: self.serial("serial")?,
+                reached: self.choice("reached")?,
             },
             "rebuild" => Case::Rebuild {
                 a: self.arrangement()?,
                 record: self.bytes("record")?,
+                serials: self.serials("serials")?,
                 read: self.choice("R")?,
                 lost: self.choice("L")?,
             },
             "rearrange" => Case::Rearrangement {
                 a: self.arrangement()?,
                 record: self.bytes("record")?,
+                serials: self.serials("serials")?,
                 read: self.choice("R")?,
                 to: self.shape("'")?,
                 write: self.choice("W'")?,
                 message: self.bytes("message")?,
                 new: self.bytes("new")?,
+                new_serials: self.serials("new_serials")?,
             },
             "check" => Case::Check {
                 a: self.arrangement()?,
@@ -133,19 +151,81 @@ fn to_hex(bytes: &[u8]) -> String {
     bytes.iter().map(|b| format!("{b:02x}")).collect()
 }
 
+/// Numbers with commas between them.
+fn from_list(text: &str) -> Option<Vec<u32>> {
+    if text == "-" {
+        return Some(Vec::new());
+    }
+    text.split(',').map(|number| number.parse().ok()).collect()
+}
+
+fn to_list(numbers: &[u32]) -> String {
+    if numbers.is_empty() {
+        return "-".to_string();
+    }
+    let texts: Vec<String> = numbers.iter().map(u32::to_string).collect();
+    texts.join(",")
+}
+
 /// An outcome as a line has it behind its arrow.
 fn behind_arrow(case: &Case, outcome: &Outcome) -> String {
-    let name = match case {
-        Case::Inverse { .. } | Case::Reading { .. } | Case::Difference { .. } => "out",
-        Case::Setup { .. } | Case::Change { .. } | Case::Rebuild { .. } => "record",
-        Case::Rearrangement { .. } => "new",
-        Case::View { .. } => "part",
+    let (name, serials) = match case {
+        Case::Inverse { .. } | Case::Reading { .. } | Case::Difference { .. } => ("out", None),
+        Case::Setup { .. } | Case::Change { .. } | Case::Rebuild { .. } => {
+            ("record", Some("serials"))
+        }
+        Case::Rearrangement { .. } => ("new", Some("new_serials")),
+        Case::View { .. } => ("part", None),
         Case::Check { .. } => {
             let trap = outcome.trap.map_or("-".to_string(), |t| t.to_string());
             return format!("{} trap={trap}", outcome.number);
         }
     };
-    format!("{} {name}={}", outcome.number, to_hex(&outcome.bytes))
+    let mut text = format!("{} {name}={}", outcome.number, to_hex(&outcome.bytes));
+    if let Some(name) = serials {
+        text += &format!(" {name}={}", to_list(&outcome.serials));
+    }
+    text
+}
+
+/// So many serials that are 0. For an n above 32 no length is asked.
+fn zeros(n: u64) -> Vec<u32> {
+    vec![0; n.min(32) as usize]
+}
+
+/// What request 2026-03 adds to a line of an earlier state, before and behind its
+/// arrow: serials of the right length, all 0, and a change has the serial 1 and
+/// reaches all of W. The traps of an accepted change's W then have serial 1, and
+/// all others 0.
+fn additions(call: &str, fields: &Fields, accepted: bool) -> Parsed<(String, String)> {
+    if fields.text("serials").is_ok() {
+        return Ok(Default::default());
+    }
+    Ok(match call {
+        "setup" | "rebuild" => {
+            let serials = format!(" serials={}", to_list(&zeros(fields.number("n")?)));
+            (serials.clone(), serials)
+        }
+        "change" => {
+            let mut serials = zeros(fields.number("n")?);
+            let (before, write) = (to_list(&serials), fields.text("W")?);
+            if accepted {
+                for trap in traps_of(fields.choice("W")?) {
+                    serials[trap as usize - 1] = 1;
+                }
+            }
+            (
+                format!(" serials={before} serial=1 reached={write}"),
+                format!(" serials={}", to_list(&serials)),
+            )
+        }
+        "rearrange" => {
+            let old = to_list(&zeros(fields.number("n")?));
+            let new = format!(" new_serials={}", to_list(&zeros(fields.number("n'")?)));
+            (format!(" serials={old}{new}"), new)
+        }
+        _ => Default::default(),
+    })
 }
 
 /// How a line and an implementation's outcome compare.
@@ -171,7 +251,7 @@ fn compare(expected: &str, found: &str) -> Verdict {
 /// A line that was tried.
 pub struct Tried<'a> {
     pub call: &'a str,
-    pub expected: &'a str,
+    pub expected: String,
     pub found: String,
     pub verdict: Verdict,
 }
@@ -180,13 +260,17 @@ pub struct Tried<'a> {
 pub fn try_line<'a>(line: &'a str, calls: &dyn Calls) -> Parsed<Tried<'a>> {
     let (before, expected) = line.split_once(" -> ").ok_or("no arrow")?;
     let (call, rest) = before.split_once(' ').ok_or("no arguments")?;
-    let fields = Fields::parse(rest)?;
-    let case = fields.case(call)?;
+    let accepted = expected.starts_with("0 ");
+    let (given, left) = additions(call, &Fields::parse(rest)?, accepted)?;
+    let (rest, expected) = (
+        format!("{rest}{given}"),
+        format!("{}{left}", expected.trim_end()),
+    );
+    let case = Fields::parse(&rest)?.case(call)?;
     let outcome = case.run(calls);
-    let expected = expected.trim_end();
     let found = behind_arrow(&case, &outcome);
     let verdict = if outcome.column_right {
-        compare(expected, &found)
+        compare(&expected, &found)
     } else {
         Verdict::ColumnWrong
     };

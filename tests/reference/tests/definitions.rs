@@ -1,10 +1,11 @@
 //! The calls against the words that define them, for shapes of every sort and
 //! for records that come from no pair.
 
+mod plain;
+
+use plain::{change, rearrangement, rebuild, setup};
 use reference::calls::Move;
-use reference::{
-    change, check, difference, field, reading, rearrangement, rebuild, setup, Arrangement, Shape,
-};
+use reference::{check, difference, field, reading, Arrangement, Shape};
 
 /// Bytes and choices without a plain pattern.
 struct Numbers(u64);

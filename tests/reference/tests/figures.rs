@@ -2,10 +2,11 @@
 //! figures worked by hand for (1,2,3,3), B = 1, where there is no slack and a
 //! block is the message times the point.
 
+mod plain;
+
+use plain::{change, rearrangement, rebuild, setup};
 use reference::calls::Move;
-use reference::{
-    change, check, difference, reading, rearrangement, rebuild, setup, view, Arrangement, Shape,
-};
+use reference::{check, difference, reading, view, Arrangement, Shape};
 
 fn arrangement() -> Arrangement {
     Arrangement::new(1, 2, 2, 3, 1)

@@ -1,9 +1,10 @@
 //! The questions at the gate: numbers, order, and buffers left alone.
 
+mod plain;
+
+use plain::{change, rearrangement, rebuild, setup};
 use reference::calls::Move;
-use reference::{
-    change, check, difference, reading, rearrangement, rebuild, setup, view, Arrangement, Shape,
-};
+use reference::{check, difference, reading, view, Arrangement, Shape};
 
 /// The number of a set-up with no bytes: 6 or 0 mean that 1 to 5 were passed.
 fn number(k: u64, r: u64, w: u64, n: u64, b: u64) -> u64 {
