@@ -33,6 +33,8 @@ fn calls() {
     assert_eq!(try_all(calls, &Reference), Ok(699));
     let loose = include_str!("../../vectors/2026-01-calls.txt");
     assert_eq!(try_all(loose, &Reference), Ok(400));
+    let serials = include_str!("../../vectors/2026-03-calls.txt");
+    assert_eq!(try_all(serials, &Reference), Ok(400));
 }
 
 #[test]

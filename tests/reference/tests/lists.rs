@@ -1,0 +1,259 @@
+//! Lists of calls against document 01's ledger machine, as request 2026-03 has
+//! it: sends that break and are repeated, damage while a change is open, rebuilds,
+//! rearrangements and refused calls, at random over shapes of every sort.
+
+use reference::calls::{Move, Sending};
+use reference::corpus::draft::all;
+use reference::corpus::{any_shape, shapes, Rng};
+use reference::{change, reading, rearrangement, rebuild, setup, Arrangement, Shape};
+use std::collections::{BTreeMap, BTreeSet};
+
+/// The change that was last begun.
+struct Begun {
+    d: Vec<u8>,
+    write: u32,
+    serial: u32,
+    /// The traps reached so far.
+    reached: u32,
+}
+
+/// How often things came up.
+#[derive(Default)]
+struct Counts(BTreeMap<&'static str, usize>);
+
+impl Counts {
+    fn note(&mut self, what: &'static str, came_up: bool) {
+        *self.0.entry(what).or_default() += usize::from(came_up);
+    }
+}
+
+/// What the calls are given, and beside it what the ledger machine holds.
+struct List<'a> {
+    rng: &'a mut Rng,
+    a: Arrangement,
+    record: Vec<u8>,
+    serials: Vec<u32>,
+    ledger: Vec<u8>,
+    damaged: u32,
+    /// The serials of the changes that the ledger has.
+    counted: BTreeSet<u32>,
+    begun: Begun,
+    /// Was anything written since the last send?
+    written: bool,
+}
+
+impl<'a> List<'a> {
+    /// An accepted set-up over any bytes.
+    fn open(rng: &'a mut Rng, a: Arrangement) -> List<'a> {
+        let Arrangement { shape, b } = a;
+        let (ledger, slack) = (rng.bytes(shape.k * b), rng.bytes(shape.l() * b));
+        let mut record = rng.bytes(shape.n * b);
+        let mut serials: Vec<u32> = (0..shape.n).map(|_| rng.word() as u32).collect();
+        let number = setup(&a, &ledger, &slack, &mut record, &mut serials);
+        assert_eq!(number, 0);
+        let begun = Begun {
+            d: Vec::new(),
+            write: 0,
+            serial: 0,
+            reached: 0,
+        };
+        List {
+            rng,
+            a,
+            record,
+            serials,
+            ledger,
+            damaged: 0,
+            counted: BTreeSet::new(),
+            begun,
+            written: true,
+        }
+    }
+
+    fn is_closed(&self) -> bool {
+        self.begun.write & !self.begun.reached == 0
+    }
+
+    fn any_event(&mut self, counts: &mut Counts) {
+        match self.rng.below(100) {
+            0..=39 => self.send(counts),
+            40..=49 => self.damage(counts),
+            50..=59 => self.refused(counts),
+            60..=69 => self.rebuild(counts),
+            70..=79 => self.rearrange(counts),
+            _ => self.read(counts),
+        }
+    }
+
+    /// A change is repeated while it is open, and may be until anything else is
+    /// written; else another begins.
+    fn send(&mut self, counts: &mut Counts) {
+        let again = !self.is_closed() || (!self.written && self.rng.chance(40));
+        if !again && !self.begin() {
+            return;
+        }
+        let Begun { write, serial, .. } = self.begun;
+        let some = self.rng.word() as u32;
+        let reached = self
+            .rng
+            .pick(&[write, u32::MAX, some, some, write & some, 0]);
+        let given = Sending {
+            d: &self.begun.d,
+            write,
+            serial,
+            reached,
+        };
+        let before = self.record.clone();
+        let number = change(&self.a, &mut self.record, &mut self.serials, &given);
+        assert_eq!(number, 0);
+        if self.counted.insert(serial) {
+            add(&mut self.ledger, &self.begun.d);
+        }
+        self.begun.reached |= reached;
+        self.written = false;
+        counts.note("a broken send", !self.is_closed());
+        counts.note("a repeated send", again);
+        counts.note("a send that moves nobody", before == self.record);
+    }
+
+    /// Another change, under a serial above all before; false if there is none.
+    fn begin(&mut self) -> bool {
+        let Shape { k, w, n, .. } = self.a.shape;
+        let last = self.begun.serial;
+        let step = self.rng.pick(&[1, 1, 1, 1, 1, 2, 1000, 1 << 20]);
+        let step = if self.rng.chance(2) { u32::MAX } else { step };
+        let serial = last.saturating_add(step);
+        if serial == last {
+            return false;
+        }
+        self.begun = Begun {
+            d: self.rng.bytes(k * self.a.b),
+            write: self.rng.choose(all(n), w),
+            serial,
+            reached: 0,
+        };
+        true
+    }
+
+    /// Damage, which keeps the trap's serial.
+    fn damage(&mut self, counts: &mut Counts) {
+        let trap = self.rng.below(self.a.shape.n) as usize;
+        let size = self.a.b as usize;
+        let block = self.rng.bytes(self.a.b);
+        self.record[trap * size..(trap + 1) * size].copy_from_slice(&block);
+        self.damaged |= 1 << trap;
+        self.written = true;
+        counts.note("damage while a change is open", !self.is_closed());
+    }
+
+    /// R of undamaged traps, between closed changes.
+    fn sound(&mut self) -> Option<u32> {
+        let Shape { r, n, .. } = self.a.shape;
+        let read = self.rng.choose(all(n) & !self.damaged, r);
+        let enough = u64::from(read.count_ones()) == r;
+        (enough && self.is_closed()).then_some(read)
+    }
+
+    fn read(&mut self, counts: &mut Counts) {
+        let Some(read) = self.sound() else { return };
+        let mut out = self.rng.bytes(self.a.shape.k * self.a.b);
+        assert_eq!(reading(&self.a, &self.record, read, &mut out), 0);
+        assert_eq!(out, self.ledger);
+        counts.note("a reading", true);
+    }
+
+    fn rebuild(&mut self, counts: &mut Counts) {
+        let Some(read) = self.sound() else { return };
+        let some = self.rng.word() as u32;
+        let lost = self.rng.pick(&[self.damaged, u32::MAX, some]) & all(self.a.shape.n) & !read;
+        let number = rebuild(&self.a, &mut self.record, &mut self.serials, read, lost);
+        assert_eq!(number, 0);
+        self.damaged &= !lost;
+        self.written = true;
+        counts.note("a rebuild", lost != 0);
+    }
+
+    fn rearrange(&mut self, counts: &mut Counts) {
+        let Some(read) = self.sound() else { return };
+        let (b, to) = (self.a.b, any_shape(self.rng, 32));
+        let message = self.rng.bytes(to.k * b);
+        let given = Move {
+            read,
+            to,
+            write: self.rng.choose(all(to.n), to.w),
+            message: &message,
+        };
+        let mut new = self.rng.bytes(to.n * b);
+        let mut serials = vec![0xEEEE; to.n as usize];
+        let (record, old) = (&self.record, &self.serials);
+        let number = rearrangement(&self.a, record, old, &given, &mut new, &mut serials);
+        assert_eq!(number, 0);
+        self.damaged &= !given.write & all(self.a.shape.n) & all(to.n);
+        (self.a, self.record, self.serials) = (to.with(b), new, serials);
+        self.ledger = message;
+        self.written = true;
+        counts.note("a rearrangement", true);
+    }
+
+    /// A refused change or rebuild alters nothing, also while a change is open.
+    fn refused(&mut self, counts: &mut Counts) {
+        let Shape { k, r, w, n } = self.a.shape;
+        let d = self.rng.bytes(k * self.a.b);
+        let write = self.rng.choose(all(n), w);
+        let (before, old) = (self.record.clone(), self.serials.clone());
+        let (record, serials) = (&mut self.record, &mut self.serials);
+        let refused = |write, serial| Sending {
+            d: &d,
+            write,
+            serial,
+            reached: u32::MAX,
+        };
+        assert_eq!(change(&self.a, record, serials, &refused(write, 0)), 24);
+        assert_eq!(change(&self.a, record, serials, &refused(0, u32::MAX)), 8);
+        assert_eq!(rebuild(&self.a, record, serials, all(r), 1), 9);
+        assert_eq!((&self.record, &self.serials), (&before, &old));
+        counts.note("refused while a change is open", !self.is_closed());
+    }
+
+    /// The whole change once more, if it is open; then a reading.
+    fn close(&mut self, counts: &mut Counts) {
+        if !self.is_closed() {
+            let given = Sending {
+                d: &self.begun.d,
+                write: self.begun.write,
+                serial: self.begun.serial,
+                reached: self.begun.write,
+            };
+            let number = change(&self.a, &mut self.record, &mut self.serials, &given);
+            assert_eq!(number, 0);
+            self.begun.reached = u32::MAX;
+        }
+        self.read(counts);
+    }
+}
+
+fn add(ledger: &mut [u8], d: &[u8]) {
+    for (held, added) in ledger.iter_mut().zip(d) {
+        *held ^= added;
+    }
+}
+
+#[test]
+fn readings_are_the_ledger() {
+    let mut rng = Rng::new(41);
+    let mut counts = Counts::default();
+    let mut starts: Vec<Shape> = (1..=5).flat_map(shapes).collect();
+    starts.extend((0..1500).map(|_| any_shape(&mut rng, 32)));
+    for shape in starts {
+        let b = rng.range(1, 3);
+        let mut list = List::open(&mut rng, shape.with(b));
+        for _ in 0..60 {
+            list.any_event(&mut counts);
+        }
+        list.close(&mut counts);
+    }
+    assert_eq!(counts.0.len(), 8);
+    for (what, count) in counts.0 {
+        assert!(count > 1000, "{what}: {count}");
+    }
+}
