@@ -1,4 +1,5 @@
-/* A record on three cards, one of them flat: document 01's figures through the C functions. Prints each step; exit status 1 if one is not as it should be. */
+/* A record on three cards, one of them flat: document 01's figures through the C functions, with a change that breaks off and is sent again. Prints each step;
+ * exit status 1 if one is not as it should be. */
 #include <stdio.h>
 #include <string.h>
 
@@ -11,19 +12,29 @@ static void expect(const char *step, int holds) {
     failed |= !holds;
 }
 
+static int are(const uint32_t serials[3], uint32_t first, uint32_t second, uint32_t third) {
+    return serials[0] == first && serials[1] == second && serials[2] == third;
+}
+
 int main(void) {
     const size_t k = 1, r = 2, w = 2, n = 3, b = 1;
     const uint8_t message[] = {0x07}, slack[] = {0x01}, change[] = {0x05};
     uint8_t card[3], read[1], added[2];
-    uint32_t answer;
+    uint32_t serials[3], answer;
 
-    answer = jirvents_encode(k, r, w, n, b, message, 1, slack, 1, card, 3);
+    answer = jirvents_encode(k, r, w, n, b, message, 1, slack, 1, card, 3, serials, 3);
     expect("set-up gives 06 0A 0C", answer == 0 && !memcmp(card, "\x06\x0A\x0C", 3));
+    expect("and serials 0 0 0", are(serials, 0, 0, 0));
 
     answer = jirvents_delta(k, r, w, n, b, change, 1, 3, added, 2);
     expect("difference is 06 06", answer == 0 && !memcmp(added, "\x06\x06", 2));
-    answer = jirvents_update(k, r, w, n, b, card, 3, change, 1, 3);
-    expect("change through 1, 2: 00 0C 0C", answer == 0 && !memcmp(card, "\x00\x0C\x0C", 3));
+    answer = jirvents_update(k, r, w, n, b, card, 3, serials, 3, change, 1, 3, 1, 1);
+    expect("change through 1, 2, which breaks:", answer == 0);
+    expect("only node 1 has it, 00 0A 0C", !memcmp(card, "\x00\x0A\x0C", 3) && are(serials, 1, 0, 0));
+    answer = jirvents_update(k, r, w, n, b, card, 3, serials, 3, change, 1, 3, 1, 3);
+    expect("sent again to both: 00 0C 0C", answer == 0 && !memcmp(card, "\x00\x0C\x0C", 3) && are(serials, 1, 1, 0));
+    answer = jirvents_update(k, r, w, n, b, card, 3, serials, 3, change, 1, 3, 0, 3);
+    expect("there is no serial 0: 24", answer == JIRVENTS_BAD_SERIAL);
     answer = jirvents_decode(k, r, w, n, b, card, 3, 5, read, 1);
     expect("nodes 1, 3 read 02", answer == 0 && read[0] == 0x02);
 
@@ -33,8 +44,8 @@ int main(void) {
     card[2] = 0xFF;
     answer = jirvents_check(k, r, w, n, b, card, 3, &node);
     expect("node 3 is damaged", answer == 0 && node == 3);
-    answer = jirvents_repair(k, r, w, n, b, card, 3, 3, 4);
-    expect("and is rebuilt from 1, 2", answer == 0 && card[2] == 0x0C);
+    answer = jirvents_repair(k, r, w, n, b, card, 3, serials, 3, 3, 4);
+    expect("and is rebuilt from 1, 2", answer == 0 && card[2] == 0x0C && are(serials, 1, 1, 1));
 
     size_t start = 9;
     answer = jirvents_view(k, r, w, n, b, card, 3, 2, &start);
@@ -44,8 +55,9 @@ int main(void) {
 
     const uint8_t both[] = {0x01, 0x01};
     uint8_t next[3];
-    answer = jirvents_reconfigure(k, r, w, n, b, 2, 2, 3, 3, card, 3, 6, 7, both, 2, next, 3);
-    expect("rearranged to (2,2,3,3): 00 06 06", answer == 0 && !memcmp(next, "\x00\x06\x06", 3));
+    uint32_t next_serials[3];
+    answer = jirvents_reconfigure(k, r, w, n, b, 2, 2, 3, 3, card, 3, serials, 3, 6, 7, both, 2, next, 3, next_serials, 3);
+    expect("rearranged to (2,2,3,3): 00 06 06", answer == 0 && !memcmp(next, "\x00\x06\x06", 3) && are(next_serials, 1, 1, 1));
 
     const uint8_t two[] = {0x02}, singular[] = {0, 1, 0, 1};
     uint8_t inverse[4] = {0};

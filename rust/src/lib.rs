@@ -14,6 +14,17 @@
 //! each call puts its questions, in the order of [`QUESTIONS`], and is refused
 //! by the first that is answered no. A refused call writes nothing.
 //!
+//! Each node has a **serial**, kept beside the codeword: n numbers, that of node
+//! 1 first, 0 after [`encode`]. A change goes out under a serial of its own, 1 or
+//! more and above those of all changes before it, and to those of its w nodes
+//! that can be reached. A node adds its part only if that serial is above its
+//! own, and takes the serial with it. So a send that broke off is repeated: the
+//! same change through the same set under the same serial, until each of the w
+//! nodes was reached. No node adds it twice, whichever had it before. A caller
+//! has to see to it that until then nothing else is sent, read, rebuilt or
+//! rearranged (damage may happen), and that a change that reached all w nodes is
+//! not sent again once anything else was written. No question is put about this.
+//!
 //! No call allocates or keeps any state. Each takes its room on the stack, up to
 //! 62 kB.
 //!
@@ -21,19 +32,23 @@
 //! use jirvents::{decode, encode, repair, update, view, Params};
 //!
 //! let p = Params { k: 1, r: 2, w: 2, n: 3, b: 1 };
-//! let mut codeword = [0; 3];
-//! encode(p, &[0x07], &[0x01], &mut codeword)?;
+//! let (mut codeword, mut serials) = ([0; 3], [0; 3]);
+//! encode(p, &[0x07], &[0x01], &mut codeword, &mut serials)?;
 //! assert_eq!(codeword, [0x06, 0x0A, 0x0C]);
 //!
-//! // Node 3 is flat: the change goes to nodes 1 and 2.
-//! update(p, &mut codeword, &[0x05], 0b011)?;
+//! // Node 3 is flat: the change goes to nodes 1 and 2. It breaks off after node
+//! // 1, and is sent to both again.
+//! update(p, &mut codeword, &mut serials, &[0x05], 0b011, 1, 0b001)?;
+//! assert_eq!((codeword, serials), ([0x00, 0x0A, 0x0C], [1, 0, 0]));
+//! update(p, &mut codeword, &mut serials, &[0x05], 0b011, 1, 0b011)?;
+//! assert_eq!((codeword, serials), ([0x00, 0x0C, 0x0C], [1, 1, 0]));
 //! let mut message = [0; 1];
 //! decode(p, &codeword, 0b101, &mut message)?;
 //! assert_eq!(message, [0x02]);
 //!
 //! // Node 1 is damaged, and written anew from nodes 2 and 3.
 //! codeword[0] = 0xFF;
-//! repair(p, &mut codeword, 0b110, 0b001)?;
+//! repair(p, &mut codeword, &mut serials, 0b110, 0b001)?;
 //! assert_eq!(codeword, [0x00, 0x0C, 0x0C]);
 //!
 //! let refusal = view(p, &codeword, 4).unwrap_err();
@@ -78,7 +93,7 @@ pub struct Shape {
 /// The questions that calls put, in the order in which they are put, each with
 /// the number that answers for it. 11 to 14 are 1 to 4 for the new parameters
 /// and are put after 5.
-pub const QUESTIONS: [(u32, &str); 12] = [
+pub const QUESTIONS: [(u32, &str); 13] = [
     (1, "is n from 1 to 32?"),
     (2, "are r and w at most n?"),
     (3, "is k at least 1, at most r and at most w?"),
@@ -88,6 +103,7 @@ pub const QUESTIONS: [(u32, &str); 12] = [
     (6, "has each slice its exact length?"),
     (7, "does each node set name only nodes up to its n?"),
     (8, "is the set to read of size r, and the set to write of size w (for reconfigure, the new w)?"),
+    (24, "is the serial above 0?"),
     (9, "are the lost nodes apart from those read?"),
     (10, "is the node from 1 to n?"),
     (15, "has the matrix an inverse?"),
@@ -176,6 +192,8 @@ mod raw {
             slack_len: usize,
             codeword: *mut u8,
             codeword_len: usize,
+            serials: *mut u32,
+            serials_len: usize,
         ) -> u32;
 
         pub fn jirvents_decode(
@@ -212,9 +230,13 @@ mod raw {
             b: usize,
             codeword: *mut u8,
             codeword_len: usize,
+            serials: *mut u32,
+            serials_len: usize,
             change: *const u8,
             change_len: usize,
             to: u32,
+            serial: u32,
+            reached: u32,
         ) -> u32;
 
         pub fn jirvents_repair(
@@ -225,6 +247,8 @@ mod raw {
             b: usize,
             codeword: *mut u8,
             codeword_len: usize,
+            serials: *mut u32,
+            serials_len: usize,
             from: u32,
             lost: u32,
         ) -> u32;
@@ -241,12 +265,16 @@ mod raw {
             n2: usize,
             codeword: *const u8,
             codeword_len: usize,
+            serials: *const u32,
+            serials_len: usize,
             from: u32,
             to: u32,
             message: *const u8,
             message_len: usize,
             out: *mut u8,
             out_len: usize,
+            out_serials: *mut u32,
+            out_serials_len: usize,
         ) -> u32;
 
         /// Writes `node` with answer 0 only.
@@ -295,10 +323,16 @@ fn served(number: u32) -> Result<(), Refusal> {
 }
 
 /// Writes to `codeword` (n·b bytes) the blocks of a message (k·b bytes) and a
-/// slack ((n - w)·b bytes).
+/// slack ((n - w)·b bytes), and 0 to each of the n `serials`.
 ///
 /// Puts the questions 1 to 6.
-pub fn encode(p: Params, message: &[u8], slack: &[u8], codeword: &mut [u8]) -> Result<(), Refusal> {
+pub fn encode(
+    p: Params,
+    message: &[u8],
+    slack: &[u8],
+    codeword: &mut [u8],
+    serials: &mut [u32],
+) -> Result<(), Refusal> {
     // SAFETY: each pointer and length is that of a slice borrowed for the call.
     served(unsafe {
         raw::jirvents_encode(
@@ -313,6 +347,8 @@ pub fn encode(p: Params, message: &[u8], slack: &[u8], codeword: &mut [u8]) -> R
             slack.len(),
             codeword.as_mut_ptr(),
             codeword.len(),
+            serials.as_mut_ptr(),
+            serials.len(),
         )
     })
 }
@@ -363,12 +399,22 @@ pub fn delta(p: Params, change: &[u8], to: u32, out: &mut [u8]) -> Result<(), Re
     })
 }
 
-/// Adds a change of the message (k·b bytes) through the nodes of `to`: each of
-/// their w blocks in `codeword` (n·b bytes) gets what [`delta`] tells. Every
-/// other byte stays.
+/// Sends a change of the message (k·b bytes) through the w nodes of `to` under
+/// `serial`: each of them that is in `reached` and whose serial, of the n
+/// `serials`, is below this one adds to its block in `codeword` (n·b bytes) what
+/// [`delta`] tells, and takes the serial. Every other byte and serial stays.
+/// `reached` may have any bits; a send that moves no node is accepted.
 ///
-/// Puts the questions 1 to 8.
-pub fn update(p: Params, codeword: &mut [u8], change: &[u8], to: u32) -> Result<(), Refusal> {
+/// Puts the questions 1 to 8 and 24.
+pub fn update(
+    p: Params,
+    codeword: &mut [u8],
+    serials: &mut [u32],
+    change: &[u8],
+    to: u32,
+    serial: u32,
+    reached: u32,
+) -> Result<(), Refusal> {
     // SAFETY: each pointer and length is that of a slice borrowed for the call.
     served(unsafe {
         raw::jirvents_update(
@@ -379,20 +425,31 @@ pub fn update(p: Params, codeword: &mut [u8], change: &[u8], to: u32) -> Result<
             p.b,
             codeword.as_mut_ptr(),
             codeword.len(),
+            serials.as_mut_ptr(),
+            serials.len(),
             change.as_ptr(),
             change.len(),
             to,
+            serial,
+            reached,
         )
     })
 }
 
 /// Writes in `codeword` (n·b bytes) the blocks of the nodes of `lost` anew, from
-/// those of the q lowest of `from`, r other nodes. Every other byte stays; `lost`
+/// those of the q lowest of `from`, r other nodes; of the n `serials` those of
+/// `lost` become the highest of all r. Every other byte and serial stays; `lost`
 /// may be empty.
 ///
 /// Puts the questions 1 to 9.
-pub fn repair(p: Params, codeword: &mut [u8], from: u32, lost: u32) -> Result<(), Refusal> {
-    // SAFETY: the pointer and length are those of a slice borrowed for the call.
+pub fn repair(
+    p: Params,
+    codeword: &mut [u8],
+    serials: &mut [u32],
+    from: u32,
+    lost: u32,
+) -> Result<(), Refusal> {
+    // SAFETY: each pointer and length is that of a slice borrowed for the call.
     served(unsafe {
         raw::jirvents_repair(
             p.k,
@@ -402,6 +459,8 @@ pub fn repair(p: Params, codeword: &mut [u8], from: u32, lost: u32) -> Result<()
             p.b,
             codeword.as_mut_ptr(),
             codeword.len(),
+            serials.as_mut_ptr(),
+            serials.len(),
             from,
             lost,
         )
@@ -409,20 +468,24 @@ pub fn repair(p: Params, codeword: &mut [u8], from: u32, lost: u32) -> Result<()
 }
 
 /// Writes to `out` (n'·b bytes, the shape's n') the codeword for a new shape and
-/// a new message (k'·b bytes). `codeword` has the old n·b bytes, `from` names r
-/// old nodes, of which the q lowest are read, `to` w' of the new ones. Nodes of
-/// `to` and nodes above n get new blocks. Any other block is copied from
-/// `codeword` as it is, so a flat node can be left out of both sets.
+/// a new message (k'·b bytes), and to `out_serials` its n' serials. `codeword` has
+/// the old n·b bytes, `serials` the old n, `from` names r old nodes, of which the
+/// q lowest are read, `to` w' of the new ones. Nodes of `to` and nodes above n get
+/// new blocks and the highest serial of all r. Any other block and its serial is
+/// copied as it is, so a flat node can be left out of both sets.
 ///
 /// Puts the questions 1 to 5, 11 to 14, 6, 7, 8.
+#[allow(clippy::too_many_arguments)]
 pub fn reconfigure(
     p: Params,
     shape: Shape,
     codeword: &[u8],
+    serials: &[u32],
     from: u32,
     to: u32,
     message: &[u8],
     out: &mut [u8],
+    out_serials: &mut [u32],
 ) -> Result<(), Refusal> {
     // SAFETY: each pointer and length is that of a slice borrowed for the call.
     served(unsafe {
@@ -438,12 +501,16 @@ pub fn reconfigure(
             shape.n,
             codeword.as_ptr(),
             codeword.len(),
+            serials.as_ptr(),
+            serials.len(),
             from,
             to,
             message.as_ptr(),
             message.len(),
             out.as_mut_ptr(),
             out.len(),
+            out_serials.as_mut_ptr(),
+            out_serials.len(),
         )
     })
 }
