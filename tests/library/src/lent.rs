@@ -1,12 +1,13 @@
-//! Buffers to lend, with bytes about them that no call may touch.
+//! Buffers to lend, of bytes or of serials, with others about them that no call may
+//! touch.
 
 use std::cell::Cell;
 
-/// The least count of bytes on each side.
+/// The least count of items on each side.
 const MARGIN: usize = 64;
 
-/// Each buffer is moved by less than this. It is odd, so that both buffers of a
-/// call that is lent two come to start at every place within a word.
+/// Each buffer is moved by less than this. It is prime, so that all buffers of a
+/// call that is lent several come to start at every place within a word.
 const PLACES: usize = 31;
 
 thread_local! {
@@ -14,32 +15,32 @@ thread_local! {
     static TURN: Cell<usize> = const { Cell::new(0) };
 }
 
-/// Bytes to lend.
-pub struct Lent {
-    held: Vec<u8>,
+/// What is lent.
+pub struct Lent<T> {
+    held: Vec<T>,
     start: usize,
     length: usize,
 }
 
-/// A margin's byte.
-fn filling(place: usize) -> u8 {
-    (place * 37 + 11) as u8
+/// A margin's item.
+fn filling<T: From<u8>>(place: usize) -> T {
+    T::from((place * 37 + 11) as u8)
 }
 
-impl Lent {
+impl<T: Copy + PartialEq + From<u8>> Lent<T> {
     /// At the next place.
-    pub fn new(bytes: &[u8]) -> Lent {
+    pub fn new(items: &[T]) -> Lent<T> {
         let place = TURN.with(|turn| turn.replace((turn.get() + 1) % PLACES));
-        Lent::at(bytes, place)
+        Lent::at(items, place)
     }
 
-    /// So far past a boundary of eight bytes.
-    pub fn at(bytes: &[u8], place: usize) -> Lent {
-        let length = bytes.len();
+    /// So many items past a boundary of eight bytes.
+    pub fn at(items: &[T], place: usize) -> Lent<T> {
+        let length = items.len();
         let most = MARGIN + 7 + place;
-        let mut held: Vec<u8> = (0..most + length + MARGIN).map(filling).collect();
+        let mut held: Vec<T> = (0..most + length + MARGIN).map(filling).collect();
         let start = MARGIN + held.as_ptr().align_offset(8) + place;
-        held[start..start + length].copy_from_slice(bytes);
+        held[start..start + length].copy_from_slice(items);
         Lent {
             held,
             start,
@@ -47,11 +48,11 @@ impl Lent {
         }
     }
 
-    pub fn bytes(&self) -> &[u8] {
+    pub fn items(&self) -> &[T] {
         &self.held[self.start..self.start + self.length]
     }
 
-    pub fn bytes_mut(&mut self) -> &mut [u8] {
+    pub fn items_mut(&mut self) -> &mut [T] {
         &mut self.held[self.start..self.start + self.length]
     }
 
@@ -59,21 +60,21 @@ impl Lent {
         let end = self.start + self.length;
         let mut margins = (0..self.start).chain(end..self.held.len());
         let kept = margins.all(|place| self.held[place] == filling(place));
-        assert!(kept, "bytes beside a buffer were written");
+        assert!(kept, "something beside a buffer was written");
     }
 
     /// Ends a loan for reading.
-    pub fn test_unchanged(self, bytes: &[u8]) {
+    pub fn test_unchanged(self, items: &[T]) {
         self.test_margins();
         assert!(
-            self.bytes() == bytes,
+            self.items() == items,
             "a buffer that is only read was written"
         );
     }
 
     /// Ends a loan for writing.
-    pub fn give_back(self, bytes: &mut [u8]) {
+    pub fn give_back(self, items: &mut [T]) {
         self.test_margins();
-        bytes.copy_from_slice(self.bytes());
+        items.copy_from_slice(self.items());
     }
 }

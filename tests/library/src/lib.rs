@@ -7,12 +7,12 @@ mod make;
 
 pub use lent::Lent;
 pub use library::{params, Library};
-pub use make::{any_arrangement, right, shapes, spoil, Call};
+pub use make::{any_arrangement, any_serial, any_serials, right, shapes, spoil, Call};
 
 use reference::cases::{Case, Reference};
 use std::collections::BTreeSet;
 
-/// Puts a case to both; the number and every byte must be the same.
+/// Puts a case to both; the number, every byte and every serial must be the same.
 pub fn agree(case: &Case) -> u64 {
     let expected = case.run(&Reference);
     let found = case.run(&Library);

@@ -2,7 +2,7 @@
 
 use crate::lent::Lent;
 use jirvents::{Params, Refusal};
-use reference::calls::Move;
+use reference::calls::{Move, Sending};
 use reference::cases::Calls;
 use reference::Arrangement;
 
@@ -39,7 +39,7 @@ fn number<T>(result: Result<T, Refusal>) -> u64 {
 impl Calls for Library {
     fn inverse(&self, side: u64, matrix: &[u8], out: &mut [u8]) -> (u64, Option<u64>) {
         let (from, mut to) = (Lent::new(matrix), Lent::new(out));
-        let result = jirvents::invert(size(side), from.bytes(), to.bytes_mut());
+        let result = jirvents::invert(size(side), from.items(), to.items_mut());
         from.test_unchanged(matrix);
         to.give_back(out);
         match result {
@@ -49,18 +49,33 @@ impl Calls for Library {
         }
     }
 
-    fn setup(&self, a: &Arrangement, message: &[u8], slack: &[u8], record: &mut [u8]) -> u64 {
-        let (x, v, mut codeword) = (Lent::new(message), Lent::new(slack), Lent::new(record));
-        let result = jirvents::encode(params(a), x.bytes(), v.bytes(), codeword.bytes_mut());
+    fn setup(
+        &self,
+        a: &Arrangement,
+        message: &[u8],
+        slack: &[u8],
+        record: &mut [u8],
+        serials: &mut [u32],
+    ) -> u64 {
+        let (x, v) = (Lent::new(message), Lent::new(slack));
+        let (mut codeword, mut kept) = (Lent::new(record), Lent::new(serials));
+        let result = jirvents::encode(
+            params(a),
+            x.items(),
+            v.items(),
+            codeword.items_mut(),
+            kept.items_mut(),
+        );
         x.test_unchanged(message);
         v.test_unchanged(slack);
         codeword.give_back(record);
+        kept.give_back(serials);
         number(result)
     }
 
     fn reading(&self, a: &Arrangement, record: &[u8], read: u32, out: &mut [u8]) -> u64 {
         let (codeword, mut to) = (Lent::new(record), Lent::new(out));
-        let result = jirvents::decode(params(a), codeword.bytes(), read, to.bytes_mut());
+        let result = jirvents::decode(params(a), codeword.items(), read, to.items_mut());
         codeword.test_unchanged(record);
         to.give_back(out);
         number(result)
@@ -68,48 +83,91 @@ impl Calls for Library {
 
     fn difference(&self, a: &Arrangement, d: &[u8], write: u32, out: &mut [u8]) -> u64 {
         let (change, mut to) = (Lent::new(d), Lent::new(out));
-        let result = jirvents::delta(params(a), change.bytes(), write, to.bytes_mut());
+        let result = jirvents::delta(params(a), change.items(), write, to.items_mut());
         change.test_unchanged(d);
         to.give_back(out);
         number(result)
     }
 
-    fn change(&self, a: &Arrangement, record: &mut [u8], d: &[u8], write: u32) -> u64 {
-        let (mut codeword, change) = (Lent::new(record), Lent::new(d));
-        let result = jirvents::update(params(a), codeword.bytes_mut(), change.bytes(), write);
-        change.test_unchanged(d);
+    fn change(
+        &self,
+        a: &Arrangement,
+        record: &mut [u8],
+        serials: &mut [u32],
+        given: &Sending,
+    ) -> u64 {
+        let (mut codeword, mut kept) = (Lent::new(record), Lent::new(serials));
+        let change = Lent::new(given.d);
+        let result = jirvents::update(
+            params(a),
+            codeword.items_mut(),
+            kept.items_mut(),
+            change.items(),
+            given.write,
+            given.serial,
+            given.reached,
+        );
+        change.test_unchanged(given.d);
         codeword.give_back(record);
+        kept.give_back(serials);
         number(result)
     }
 
-    fn rebuild(&self, a: &Arrangement, record: &mut [u8], read: u32, lost: u32) -> u64 {
-        let mut codeword = Lent::new(record);
-        let result = jirvents::repair(params(a), codeword.bytes_mut(), read, lost);
+    fn rebuild(
+        &self,
+        a: &Arrangement,
+        record: &mut [u8],
+        serials: &mut [u32],
+        read: u32,
+        lost: u32,
+    ) -> u64 {
+        let (mut codeword, mut kept) = (Lent::new(record), Lent::new(serials));
+        let result = jirvents::repair(
+            params(a),
+            codeword.items_mut(),
+            kept.items_mut(),
+            read,
+            lost,
+        );
         codeword.give_back(record);
+        kept.give_back(serials);
         number(result)
     }
 
-    fn rearrangement(&self, a: &Arrangement, record: &[u8], given: &Move, new: &mut [u8]) -> u64 {
-        let (codeword, message) = (Lent::new(record), Lent::new(given.message));
-        let mut out = Lent::new(new);
+    fn rearrangement(
+        &self,
+        a: &Arrangement,
+        record: &[u8],
+        serials: &[u32],
+        given: &Move,
+        new: &mut [u8],
+        new_serials: &mut [u32],
+    ) -> u64 {
+        let (codeword, kept) = (Lent::new(record), Lent::new(serials));
+        let message = Lent::new(given.message);
+        let (mut out, mut out_serials) = (Lent::new(new), Lent::new(new_serials));
         let result = jirvents::reconfigure(
             params(a),
             shape(&given.to),
-            codeword.bytes(),
+            codeword.items(),
+            kept.items(),
             given.read,
             given.write,
-            message.bytes(),
-            out.bytes_mut(),
+            message.items(),
+            out.items_mut(),
+            out_serials.items_mut(),
         );
         codeword.test_unchanged(record);
+        kept.test_unchanged(serials);
         message.test_unchanged(given.message);
         out.give_back(new);
+        out_serials.give_back(new_serials);
         number(result)
     }
 
     fn check(&self, a: &Arrangement, record: &[u8]) -> (u64, Option<u64>) {
         let codeword = Lent::new(record);
-        let result = jirvents::check(params(a), codeword.bytes());
+        let result = jirvents::check(params(a), codeword.items());
         codeword.test_unchanged(record);
         let node = result.ok().map(|node| node.unwrap_or(0).into());
         (number(result), node)

@@ -35,7 +35,8 @@ impl Call {
     pub fn numbers(self) -> &'static [u64] {
         match self {
             Call::Setup | Call::Check => &[0, 1, 2, 3, 4, 5, 6],
-            Call::Reading | Call::Difference | Call::Change => &[0, 1, 2, 3, 4, 5, 6, 7, 8],
+            Call::Reading | Call::Difference => &[0, 1, 2, 3, 4, 5, 6, 7, 8],
+            Call::Change => &[0, 1, 2, 3, 4, 5, 6, 7, 8, 24],
             Call::Rebuild => &[0, 1, 2, 3, 4, 5, 6, 7, 8, 9],
             Call::Rearrangement => &[0, 1, 2, 3, 4, 5, 6, 7, 8, 11, 12, 13, 14],
             Call::View => &[0, 1, 2, 3, 4, 5, 6, 10],
@@ -57,7 +58,17 @@ pub fn any_arrangement(rng: &mut Rng) -> Arrangement {
     any_shape(rng, most).with(b)
 }
 
-/// A case that is accepted; its buffers hold any bytes.
+/// Small ones, so that some are equal, and the outermost.
+pub fn any_serial(rng: &mut Rng) -> u32 {
+    let any = rng.word() as u32;
+    rng.pick(&[0, 1, 2, 3, any, u32::MAX - 1, u32::MAX])
+}
+
+pub fn any_serials(rng: &mut Rng, count: u64) -> Vec<u32> {
+    (0..count).map(|_| any_serial(rng)).collect()
+}
+
+/// A case that is accepted; its buffers hold any bytes and serials.
 pub fn right(rng: &mut Rng, call: Call, a: Arrangement) -> Case {
     let Arrangement { shape, b } = a;
     let Shape { k, r, w, n } = shape;
@@ -67,6 +78,7 @@ pub fn right(rng: &mut Rng, call: Call, a: Arrangement) -> Case {
             message: rng.bytes(k * b),
             slack: rng.bytes(shape.l() * b),
             record: rng.bytes(n * b),
+            serials: any_serials(rng, n),
         },
         Call::Reading => Case::Reading {
             a,
@@ -80,17 +92,25 @@ pub fn right(rng: &mut Rng, call: Call, a: Arrangement) -> Case {
             write: rng.choose(all(n), w),
             out: rng.bytes(w * b),
         },
-        Call::Change => Case::Change {
-            a,
-            record: rng.bytes(n * b),
-            d: rng.bytes(k * b),
-            write: rng.choose(all(n), w),
-        },
+        Call::Change => {
+            let write = rng.choose(all(n), w);
+            let some = rng.word() as u32;
+            Case::Change {
+                a,
+                record: rng.bytes(n * b),
+                serials: any_serials(rng, n),
+                d: rng.bytes(k * b),
+                write,
+                serial: any_serial(rng).max(1),
+                reached: rng.pick(&[write, u32::MAX, some, 0]),
+            }
+        }
         Call::Rebuild => {
             let read = rng.choose(all(n), r);
             Case::Rebuild {
                 a,
                 record: rng.bytes(n * b),
+                serials: any_serials(rng, n),
                 read,
                 lost: rng.word() as u32 & all(n) & !read,
             }
@@ -100,11 +120,13 @@ pub fn right(rng: &mut Rng, call: Call, a: Arrangement) -> Case {
             Case::Rearrangement {
                 a,
                 record: rng.bytes(n * b),
+                serials: any_serials(rng, n),
                 read: rng.choose(all(n), r),
                 to,
                 write: rng.choose(all(to.n), to.w),
                 message: rng.bytes(to.k * b),
                 new: rng.bytes(to.n * b),
+                new_serials: any_serials(rng, to.n),
             }
         }
         Call::Check => Case::Check {
@@ -124,7 +146,8 @@ fn nearly_sound(rng: &mut Rng, a: &Arrangement) -> Vec<u8> {
     let message = rng.bytes(a.shape.k * a.b);
     let slack = rng.bytes(a.shape.l() * a.b);
     let mut record = vec![0; (a.shape.n * a.b) as usize];
-    assert_eq!(setup(a, &message, &slack, &mut record), 0);
+    let mut serials = vec![0; a.shape.n as usize];
+    assert_eq!(setup(a, &message, &slack, &mut record, &mut serials), 0);
     for _ in 0..rng.below(4) {
         let place = rng.below(record.len() as u64) as usize;
         record[place] ^= 1 << rng.below(8);
@@ -137,7 +160,9 @@ enum Place<'a> {
     Number(&'a mut u64),
     Trap(&'a mut u64),
     Choice(&'a mut u32),
+    Serial(&'a mut u32),
     Bytes(&'a mut Vec<u8>),
+    Serials(&'a mut Vec<u32>),
 }
 
 fn shape_places(shape: &mut Shape) -> Vec<Place<'_>> {
@@ -147,7 +172,7 @@ fn shape_places(shape: &mut Shape) -> Vec<Place<'_>> {
 
 /// All arguments of a case.
 fn places(case: &mut Case) -> Vec<Place<'_>> {
-    use Place::{Bytes, Choice, Number, Trap};
+    use Place::{Bytes, Choice, Number, Serial, Serials, Trap};
     let (a, mut places) = match case {
         Case::Inverse { side, matrix, out } => {
             return vec![Number(side), Bytes(matrix), Bytes(out)];
@@ -157,7 +182,16 @@ fn places(case: &mut Case) -> Vec<Place<'_>> {
             message,
             slack,
             record,
-        } => (a, vec![Bytes(message), Bytes(slack), Bytes(record)]),
+            serials,
+        } => {
+            let places = vec![
+                Bytes(message),
+                Bytes(slack),
+                Bytes(record),
+                Serials(serials),
+            ];
+            (a, places)
+        }
         Case::Reading {
             a,
             record,
@@ -168,27 +202,40 @@ fn places(case: &mut Case) -> Vec<Place<'_>> {
         Case::Change {
             a,
             record,
+            serials,
             d,
             write,
-        } => (a, vec![Bytes(record), Bytes(d), Choice(write)]),
+            serial,
+            reached,
+        } => {
+            let mut places = vec![Bytes(record), Serials(serials), Bytes(d)];
+            places.extend([Choice(write), Serial(serial), Choice(reached)]);
+            (a, places)
+        }
         Case::Rebuild {
             a,
             record,
+            serials,
             read,
             lost,
-        } => (a, vec![Bytes(record), Choice(read), Choice(lost)]),
+        } => {
+            let places = vec![Bytes(record), Serials(serials), Choice(read), Choice(lost)];
+            (a, places)
+        }
         Case::Rearrangement {
             a,
             record,
+            serials,
             read,
             to,
             write,
             message,
             new,
+            new_serials,
         } => {
             let mut places = shape_places(to);
-            places.extend([Bytes(record), Choice(read), Choice(write)]);
-            places.extend([Bytes(message), Bytes(new)]);
+            places.extend([Bytes(record), Serials(serials), Choice(read), Choice(write)]);
+            places.extend([Bytes(message), Bytes(new), Serials(new_serials)]);
             (a, places)
         }
         Case::Check { a, record } => (a, vec![Bytes(record)]),
@@ -274,9 +321,14 @@ pub fn spoil(rng: &mut Rng, case: &mut Case) {
         Place::Number(number) => **number = spoiled_number(rng, **number),
         Place::Trap(trap) => **trap = rng.below(256),
         Place::Choice(choice) => **choice = spoiled_choice(rng, **choice),
+        Place::Serial(serial) => **serial = rng.pick(&[0, 0, 1, u32::MAX]),
         Place::Bytes(bytes) => {
             let length = spoiled_length(rng, bytes.len());
             bytes.resize(length, 0xD7);
+        }
+        Place::Serials(serials) => {
+            let length = spoiled_length(rng, serials.len());
+            serials.resize(length, 0xD7);
         }
     }
 }

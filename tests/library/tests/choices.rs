@@ -1,6 +1,6 @@
 //! Small shapes with every choice of traps, also of traps above n.
 
-use library::{agree, shapes};
+use library::{agree, any_serial, any_serials, shapes};
 use reference::cases::Case;
 use reference::corpus::Rng;
 use reference::Shape;
@@ -34,8 +34,11 @@ fn readings_differences_and_changes() {
             agree(&Case::Change {
                 a,
                 record: rng.bytes(n * 2),
+                serials: any_serials(&mut rng, n),
                 d: rng.bytes(k * 2),
                 write: choice,
+                serial: any_serial(&mut rng),
+                reached: rng.word() as u32,
             });
         }
     }
@@ -51,6 +54,7 @@ fn rebuilds() {
                 agree(&Case::Rebuild {
                     a,
                     record: rng.bytes(shape.n),
+                    serials: any_serials(&mut rng, shape.n),
                     read,
                     lost,
                 });
@@ -69,11 +73,13 @@ fn rearrangements() {
                     agree(&Case::Rearrangement {
                         a: from.with(1),
                         record: rng.bytes(from.n),
+                        serials: any_serials(&mut rng, from.n),
                         read,
                         to,
                         write,
                         message: rng.bytes(to.k),
                         new: rng.bytes(to.n),
+                        new_serials: any_serials(&mut rng, to.n),
                     });
                 }
             }

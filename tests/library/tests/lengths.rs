@@ -4,7 +4,8 @@
 //! against the reference.
 
 use library::{agree, params, right, Call, Lent, Library};
-use reference::cases::{Calls, Case, Reference};
+use reference::calls::Sending;
+use reference::cases::{Calls, Case, Outcome, Reference};
 use reference::corpus::draft::all;
 use reference::corpus::Rng;
 use reference::{Arrangement, Shape};
@@ -56,7 +57,8 @@ fn every_call() {
 }
 
 /// A change and a difference with the same bytes through the same W. The record
-/// holds any bytes.
+/// holds any bytes; its serials are 0, and the change under serial 1 reaches all
+/// of W.
 struct Sent {
     a: Arrangement,
     record: Vec<u8>,
@@ -81,9 +83,16 @@ impl Sent {
         Case::Change {
             a: self.a,
             record: self.record.clone(),
+            serials: self.serials(),
             d: self.d.clone(),
             write: self.write,
+            serial: 1,
+            reached: self.write,
         }
+    }
+
+    fn serials(&self) -> Vec<u32> {
+        vec![0; self.a.shape.n as usize]
     }
 
     fn difference(&self) -> Case {
@@ -101,20 +110,30 @@ impl Sent {
     }
 
     /// The change adds what the difference gives to W's blocks, no other byte is
-    /// altered, and sent again it takes itself back.
+    /// altered, and under the next serial it takes itself back.
     fn test_served(&self) {
         self.agree(0);
-        let mut record = self.change().run(&Library).bytes;
+        let outcome = self.change().run(&Library);
+        let (mut record, mut serials) = (outcome.bytes, outcome.serials);
         let differences = self.difference().run(&Library).bytes;
         assert!(record == added(self, &differences), "{:x?}", self.change());
-        assert_eq!(Library.change(&self.a, &mut record, &self.d, self.write), 0);
+        let given = Sending {
+            d: &self.d,
+            write: self.write,
+            serial: 2,
+            reached: self.write,
+        };
+        let number = Library.change(&self.a, &mut record, &mut serials, &given);
+        assert_eq!(number, 0);
         assert!(record == self.record, "{:x?}", self.change());
     }
 
-    /// What is refused with this number leaves both buffers as they are.
+    /// What is refused with this number leaves all buffers as they are.
     fn test_refused(&self, number: u64) {
         self.agree(number);
-        assert_eq!(self.change().run(&Library).bytes, self.record);
+        let outcome = self.change().run(&Library);
+        assert_eq!(outcome.bytes, self.record);
+        assert_eq!(outcome.serials, self.serials());
         assert_eq!(self.difference().run(&Library).bytes, self.out);
     }
 }
@@ -211,37 +230,48 @@ fn lengthen(bytes: &mut Vec<u8>, by: isize) {
 }
 
 /// What is read and what is written, each at every distance from a boundary of
-/// eight bytes.
+/// eight bytes; serials at either that they can have.
 #[test]
 fn buffers_at_every_place_within_a_word() {
     let mut rng = Rng::new(606);
     for shape in shapes() {
         for b in [1, 7, 8, 9, 15, 16, 17, 63, 64, 65, 257, 1023, 1024] {
             let sent = Sent::any(&mut rng, shape.with(b));
-            let record = sent.change().run(&Reference).bytes;
+            let Outcome { bytes, serials, .. } = sent.change().run(&Reference);
+            let held = (bytes, serials);
             let out = sent.difference().run(&Reference).bytes;
             for places in 0..64 {
                 let (from, to) = (places % 8, places / 8);
-                assert!(changed(&sent, from, to) == record, "{b}: {from}, {to}");
+                assert!(changed(&sent, from, to) == held, "{b}: {from}, {to}");
                 assert!(differences(&sent, from, to) == out, "{b}: {from}, {to}");
             }
         }
     }
 }
 
-fn changed(sent: &Sent, from: usize, to: usize) -> Vec<u8> {
+fn changed(sent: &Sent, from: usize, to: usize) -> (Vec<u8>, Vec<u32>) {
     let (d, mut codeword) = (Lent::at(&sent.d, from), Lent::at(&sent.record, to));
-    let result = jirvents::update(params(&sent.a), codeword.bytes_mut(), d.bytes(), sent.write);
+    let mut kept = Lent::at(&sent.serials(), from + to);
+    let result = jirvents::update(
+        params(&sent.a),
+        codeword.items_mut(),
+        kept.items_mut(),
+        d.items(),
+        sent.write,
+        1,
+        sent.write,
+    );
     assert_eq!(result, Ok(()));
     d.test_unchanged(&sent.d);
-    let mut record = sent.record.clone();
+    let (mut record, mut serials) = (sent.record.clone(), sent.serials());
     codeword.give_back(&mut record);
-    record
+    kept.give_back(&mut serials);
+    (record, serials)
 }
 
 fn differences(sent: &Sent, from: usize, to: usize) -> Vec<u8> {
     let (d, mut given) = (Lent::at(&sent.d, from), Lent::at(&sent.out, to));
-    let result = jirvents::delta(params(&sent.a), d.bytes(), sent.write, given.bytes_mut());
+    let result = jirvents::delta(params(&sent.a), d.items(), sent.write, given.items_mut());
     assert_eq!(result, Ok(()));
     d.test_unchanged(&sent.d);
     let mut out = sent.out.clone();
@@ -270,10 +300,15 @@ fn test_sums(pairs: &[u16]) {
     let a = Arrangement::new(1, 1, 1, 1, pairs.len() as u64);
     let (held, d): (Vec<u8>, Vec<u8>) = pairs.iter().map(|pair| pair.to_le_bytes().into()).unzip();
     let sums: Vec<u8> = held.iter().zip(&d).map(|(x, y)| x ^ y).collect();
-    let mut record = held.clone();
-    assert_eq!(Library.change(&a, &mut record, &d, 1), 0);
-    assert!(record == sums, "{held:x?} {d:x?}");
-    let mut record = held.clone();
-    assert_eq!(Reference.change(&a, &mut record, &d, 1), 0);
-    assert!(record == sums, "{held:x?} {d:x?}");
+    let given = Sending {
+        d: &d,
+        write: 1,
+        serial: 1,
+        reached: 1,
+    };
+    for calls in [&Library as &dyn Calls, &Reference] {
+        let mut record = held.clone();
+        assert_eq!(calls.change(&a, &mut record, &mut [0], &given), 0);
+        assert!(record == sums, "{held:x?} {d:x?}");
+    }
 }

@@ -1,13 +1,13 @@
 //! The words that go with the numbers.
 
-use jirvents::{decode, encode, invert, reconfigure, repair, view};
+use jirvents::{decode, encode, invert, reconfigure, repair, update, view};
 use jirvents::{InvertError, Params, Refusal, Shape, QUESTIONS};
 
 const README: &str = include_str!("../../../README.md");
 const HEADER: &str = include_str!("../../../c/jirvents.h");
 
-/// All questions in the order of document 01's list: those of the new
-/// parameters come after 5.
+/// All questions in the order of document 01's list, where those of the new
+/// parameters come after 5, and of request 2026-03, which puts 24 after 8.
 fn questions() -> Vec<(u32, String)> {
     let own = |(number, words): &(u32, &str)| (*number, words.to_string());
     let new = (1..=4).map(|n| (10 + n, format!("{n} for the new parameters")));
@@ -17,9 +17,9 @@ fn questions() -> Vec<(u32, String)> {
 }
 
 #[test]
-fn the_order_is_document_01s() {
+fn the_order_is_the_documents() {
     let numbers: Vec<_> = questions().into_iter().map(|row| row.0).collect();
-    let order = [1, 2, 3, 4, 5, 11, 12, 13, 14, 16, 6, 7, 8, 9, 10, 15];
+    let order = [1, 2, 3, 4, 5, 11, 12, 13, 14, 16, 6, 7, 8, 24, 9, 10, 15];
     assert_eq!(numbers, order);
 }
 
@@ -74,37 +74,51 @@ fn params(k: usize, r: usize, w: usize, n: usize, b: usize) -> Params {
 fn moved(k: usize, r: usize, w: usize, n: usize) -> Refusal {
     let shape = Shape { k, r, w, n };
     let p = params(1, 2, 2, 3, 1);
-    reconfigure(p, shape, &[0; 3], 3, 3, &[0], &mut [0; 3]).unwrap_err()
+    let (mut out, mut serials) = ([0; 3], [0; 3]);
+    reconfigure(
+        p,
+        shape,
+        &[0; 3],
+        &[0; 3],
+        3,
+        3,
+        &[0],
+        &mut out,
+        &mut serials,
+    )
+    .unwrap_err()
 }
 
 /// A refused call for each question but 15 and 16, in the order of the numbers.
 fn refusals() -> Vec<Refusal> {
     let p = params(1, 2, 2, 3, 1);
-    let refused = |p| encode(p, &[0], &[0], &mut [0; 3]).unwrap_err();
+    let mut serials = [0; 3];
+    let mut refused = |p| encode(p, &[0], &[0], &mut [0; 3], &mut serials).unwrap_err();
     vec![
         refused(params(1, 2, 2, 33, 1)),
         refused(params(1, 4, 2, 3, 1)),
         refused(params(0, 2, 2, 3, 1)),
         refused(params(1, 1, 2, 3, 1)),
         refused(params(1, 2, 2, 3, 0)),
-        encode(p, &[0], &[0], &mut [0; 4]).unwrap_err(),
+        encode(p, &[0], &[0], &mut [0; 3], &mut [0; 4]).unwrap_err(),
         decode(p, &[0; 3], 0b1001, &mut [0]).unwrap_err(),
         decode(p, &[0; 3], 0b111, &mut [0]).unwrap_err(),
-        repair(p, &mut [0; 3], 0b011, 0b010).unwrap_err(),
+        repair(p, &mut [0; 3], &mut [0; 3], 0b011, 0b010).unwrap_err(),
         view(p, &[0; 3], 4).unwrap_err(),
         moved(1, 2, 2, 0),
         moved(1, 4, 2, 3),
         moved(3, 2, 2, 3),
         moved(1, 1, 2, 3),
+        update(p, &mut [0; 3], &mut [0; 3], &[0], 0b011, 0, 0b011).unwrap_err(),
     ]
 }
 
 #[test]
 fn each_refusal_tells_its_question() {
-    for (refusal, number) in refusals().into_iter().zip(1..) {
+    for (refusal, number) in refusals().into_iter().zip((1..=14).chain([24])) {
         assert_eq!(refusal.number(), number);
         let (asked, of) = match number {
-            11.. => (number - 10, " of the new parameters"),
+            11..=14 => (number - 10, " of the new parameters"),
             _ => (number, ""),
         };
         let row = QUESTIONS.iter().find(|row| row.0 == asked);

@@ -9,4 +9,6 @@ fn every_line() {
     assert_eq!(try_all(calls, &Library), Ok(699));
     let loose = include_str!("../../vectors/2026-01-calls.txt");
     assert_eq!(try_all(loose, &Library), Ok(400));
+    let serials = include_str!("../../vectors/2026-03-calls.txt");
+    assert_eq!(try_all(serials, &Library), Ok(400));
 }
