@@ -31,12 +31,20 @@ pub trait Coder {
     fn invert(&mut self, side: usize, matrix: &[u8], out: &mut [u8]);
 }
 
-/// The library itself.
-pub struct Library;
+/// The library itself, with the serials that its calls are lent beside a codeword;
+/// the others have none.
+#[derive(Default)]
+pub struct Library {
+    serials: [u32; 32],
+    out_serials: [u32; 32],
+    /// That of the last change: each has a higher one, so that all its nodes add it.
+    serial: u32,
+}
 
 impl Coder for Library {
     fn encode(&mut self, p: Params, message: &[u8], slack: &[u8], codeword: &mut [u8]) {
-        jirvents::encode(p, message, slack, codeword).expect("right arguments");
+        let serials = &mut self.serials[..p.n];
+        jirvents::encode(p, message, slack, codeword, serials).expect("right arguments");
     }
 
     fn decode(&mut self, p: Params, codeword: &[u8], from: u32, out: &mut [u8]) {
@@ -44,11 +52,15 @@ impl Coder for Library {
     }
 
     fn update(&mut self, p: Params, codeword: &mut [u8], change: &[u8], to: u32) {
-        jirvents::update(p, codeword, change, to).expect("right arguments");
+        self.serial += 1;
+        let serials = &mut self.serials[..p.n];
+        jirvents::update(p, codeword, serials, change, to, self.serial, to)
+            .expect("right arguments");
     }
 
     fn repair(&mut self, p: Params, codeword: &mut [u8], from: u32, lost: u32) {
-        jirvents::repair(p, codeword, from, lost).expect("right arguments");
+        let serials = &mut self.serials[..p.n];
+        jirvents::repair(p, codeword, serials, from, lost).expect("right arguments");
     }
 
     fn reconfigure(
@@ -62,7 +74,19 @@ impl Coder for Library {
     ) {
         let Params { k, r, w, n, .. } = p;
         let shape = Shape { k, r, w, n };
-        jirvents::reconfigure(p, shape, codeword, from, to, message, out).expect("right arguments");
+        let (serials, out_serials) = (&self.serials[..n], &mut self.out_serials[..n]);
+        jirvents::reconfigure(
+            p,
+            shape,
+            codeword,
+            serials,
+            from,
+            to,
+            message,
+            out,
+            out_serials,
+        )
+        .expect("right arguments");
     }
 
     fn invert(&mut self, side: usize, matrix: &[u8], out: &mut [u8]) {

@@ -35,7 +35,7 @@ const NAMES: [&str; CODERS] = ["Jirvents", "plain", "jerasure", "ISA-L"];
 
 fn coders() -> Coders {
     let mut coders: Coders = [const { None }; CODERS];
-    coders[0] = Some(Box::new(Library));
+    coders[0] = Some(Box::new(Library::default()));
     coders[1] = Some(Box::new(Calls::new(plain::Plain::new())));
     #[cfg(jerasure)]
     {
