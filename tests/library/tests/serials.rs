@@ -1,12 +1,12 @@
 //! Serials: what each node adds and takes, sends that break off and are repeated,
-//! serials of other lengths, and the place of question 24.
+//! lists against the ledger, serials of other lengths, and the place of question 24.
 
 use library::{agree, any_arrangement, any_serial, any_serials, right, shapes, Call, Library};
 use reference::calls::Sending;
 use reference::cases::{Calls, Case};
 use reference::corpus::draft::all;
 use reference::corpus::Rng;
-use reference::{Arrangement, Shape};
+use reference::{lists, Arrangement, Shape};
 
 /// The calls that are lent serials.
 const LENT_SERIALS: [Call; 4] = [
@@ -122,6 +122,11 @@ fn a_broken_send_can_be_repeated() {
         broken.send(&a, &Sending { reached, ..whole });
         assert_eq!(broken, at_once);
     }
+}
+
+#[test]
+fn readings_after_a_list_are_the_ledger() {
+    lists::test(&Library, 707);
 }
 
 /// The highest serial stands at each node of R in turn, also at those that are not

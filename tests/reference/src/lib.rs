@@ -11,6 +11,7 @@ pub mod cases;
 pub mod corpus;
 pub mod field;
 pub mod gate;
+pub mod lists;
 pub mod matrix;
 pub mod pair;
 pub mod polynomial;

@@ -1,10 +1,11 @@
-//! Serials, as request 2026-03 has them: its figures, each call's serials, and
-//! the law of the broken send.
+//! Serials, as request 2026-03 has them: its figures, each call's serials, the law
+//! of the broken send, and lists against the ledger.
 
 use reference::calls::{Move, Sending};
+use reference::cases::Reference;
 use reference::corpus::draft::all;
 use reference::corpus::{any_shape, shapes, Rng};
-use reference::{change, difference, rearrangement, rebuild, setup, Arrangement, Shape};
+use reference::{change, difference, lists, rearrangement, rebuild, setup, Arrangement, Shape};
 
 /// A record and its serials.
 #[derive(Clone, Debug, PartialEq, Eq)]
@@ -365,4 +366,9 @@ fn the_serial_is_asked_last() {
     let mut held = before.clone();
     assert_eq!(held.send(&a, &Sending { serial: 1, ..given }), 0);
     assert_eq!(held.serials, [1, 1, 2, 3, u32::MAX]);
+}
+
+#[test]
+fn readings_after_a_list_are_the_ledger() {
+    lists::test(&Reference, 41);
 }

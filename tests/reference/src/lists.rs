@@ -1,11 +1,13 @@
 //! Lists of calls against document 01's ledger machine, as request 2026-03 has
 //! it: sends that break and are repeated, damage while a change is open, rebuilds,
-//! rearrangements and refused calls, at random over shapes of every sort.
+//! rearrangements and refused calls, at random over shapes of every sort. They can
+//! be put to any implementation.
 
-use reference::calls::{Move, Sending};
-use reference::corpus::draft::all;
-use reference::corpus::{any_shape, shapes, Rng};
-use reference::{change, reading, rearrangement, rebuild, setup, Arrangement, Shape};
+use crate::calls::{Move, Sending};
+use crate::cases::Calls;
+use crate::corpus::draft::all;
+use crate::corpus::{any_shape, shapes, Rng};
+use crate::{Arrangement, Shape};
 use std::collections::{BTreeMap, BTreeSet};
 
 /// The change that was last begun.
@@ -29,6 +31,7 @@ impl Counts {
 
 /// What the calls are given, and beside it what the ledger machine holds.
 struct List<'a> {
+    calls: &'a dyn Calls,
     rng: &'a mut Rng,
     a: Arrangement,
     record: Vec<u8>,
@@ -44,12 +47,12 @@ struct List<'a> {
 
 impl<'a> List<'a> {
     /// An accepted set-up over any bytes.
-    fn open(rng: &'a mut Rng, a: Arrangement) -> List<'a> {
+    fn open(calls: &'a dyn Calls, rng: &'a mut Rng, a: Arrangement) -> List<'a> {
         let Arrangement { shape, b } = a;
         let (ledger, slack) = (rng.bytes(shape.k * b), rng.bytes(shape.l() * b));
         let mut record = rng.bytes(shape.n * b);
         let mut serials: Vec<u32> = (0..shape.n).map(|_| rng.word() as u32).collect();
-        let number = setup(&a, &ledger, &slack, &mut record, &mut serials);
+        let number = calls.setup(&a, &ledger, &slack, &mut record, &mut serials);
         assert_eq!(number, 0);
         let begun = Begun {
             d: Vec::new(),
@@ -58,6 +61,7 @@ impl<'a> List<'a> {
             reached: 0,
         };
         List {
+            calls,
             rng,
             a,
             record,
@@ -92,28 +96,32 @@ impl<'a> List<'a> {
         if !again && !self.begin() {
             return;
         }
-        let Begun { write, serial, .. } = self.begun;
-        let some = self.rng.word() as u32;
-        let reached = self
-            .rng
-            .pick(&[write, u32::MAX, some, some, write & some, 0]);
-        let given = Sending {
-            d: &self.begun.d,
-            write,
-            serial,
-            reached,
-        };
+        let (write, some) = (self.begun.write, self.rng.word() as u32);
+        let choices = [write, u32::MAX, some, some, write & some, 0];
+        let reached = self.rng.pick(&choices);
         let before = self.record.clone();
-        let number = change(&self.a, &mut self.record, &mut self.serials, &given);
-        assert_eq!(number, 0);
-        if self.counted.insert(serial) {
-            add(&mut self.ledger, &self.begun.d);
-        }
-        self.begun.reached |= reached;
-        self.written = false;
+        self.send_to(reached);
         counts.note("a broken send", !self.is_closed());
         counts.note("a repeated send", again);
         counts.note("a send that moves nobody", before == self.record);
+    }
+
+    /// The change that was last begun goes out; the ledger has it once.
+    fn send_to(&mut self, reached: u32) {
+        let given = Sending {
+            d: &self.begun.d,
+            write: self.begun.write,
+            serial: self.begun.serial,
+            reached,
+        };
+        let (record, serials) = (&mut self.record, &mut self.serials);
+        let number = self.calls.change(&self.a, record, serials, &given);
+        assert_eq!(number, 0);
+        if self.counted.insert(given.serial) {
+            add(&mut self.ledger, given.d);
+        }
+        self.begun.reached |= reached;
+        self.written = false;
     }
 
     /// Another change, under a serial above all before; false if there is none.
@@ -157,7 +165,8 @@ impl<'a> List<'a> {
     fn read(&mut self, counts: &mut Counts) {
         let Some(read) = self.sound() else { return };
         let mut out = self.rng.bytes(self.a.shape.k * self.a.b);
-        assert_eq!(reading(&self.a, &self.record, read, &mut out), 0);
+        let number = self.calls.reading(&self.a, &self.record, read, &mut out);
+        assert_eq!(number, 0);
         assert_eq!(out, self.ledger);
         counts.note("a reading", true);
     }
@@ -166,7 +175,8 @@ impl<'a> List<'a> {
         let Some(read) = self.sound() else { return };
         let some = self.rng.word() as u32;
         let lost = self.rng.pick(&[self.damaged, u32::MAX, some]) & all(self.a.shape.n) & !read;
-        let number = rebuild(&self.a, &mut self.record, &mut self.serials, read, lost);
+        let (record, serials) = (&mut self.record, &mut self.serials);
+        let number = self.calls.rebuild(&self.a, record, serials, read, lost);
         assert_eq!(number, 0);
         self.damaged &= !lost;
         self.written = true;
@@ -186,7 +196,9 @@ impl<'a> List<'a> {
         let mut new = self.rng.bytes(to.n * b);
         let mut serials = vec![0xEEEE; to.n as usize];
         let (record, old) = (&self.record, &self.serials);
-        let number = rearrangement(&self.a, record, old, &given, &mut new, &mut serials);
+        let number = self
+            .calls
+            .rearrangement(&self.a, record, old, &given, &mut new, &mut serials);
         assert_eq!(number, 0);
         self.damaged &= !given.write & all(self.a.shape.n) & all(to.n);
         (self.a, self.record, self.serials) = (to.with(b), new, serials);
@@ -208,9 +220,10 @@ impl<'a> List<'a> {
             serial,
             reached: u32::MAX,
         };
-        assert_eq!(change(&self.a, record, serials, &refused(write, 0)), 24);
-        assert_eq!(change(&self.a, record, serials, &refused(0, u32::MAX)), 8);
-        assert_eq!(rebuild(&self.a, record, serials, all(r), 1), 9);
+        let (a, calls) = (&self.a, self.calls);
+        assert_eq!(calls.change(a, record, serials, &refused(write, 0)), 24);
+        assert_eq!(calls.change(a, record, serials, &refused(0, u32::MAX)), 8);
+        assert_eq!(calls.rebuild(a, record, serials, all(r), 1), 9);
         assert_eq!((&self.record, &self.serials), (&before, &old));
         counts.note("refused while a change is open", !self.is_closed());
     }
@@ -218,15 +231,7 @@ impl<'a> List<'a> {
     /// The whole change once more, if it is open; then a reading.
     fn close(&mut self, counts: &mut Counts) {
         if !self.is_closed() {
-            let given = Sending {
-                d: &self.begun.d,
-                write: self.begun.write,
-                serial: self.begun.serial,
-                reached: self.begun.write,
-            };
-            let number = change(&self.a, &mut self.record, &mut self.serials, &given);
-            assert_eq!(number, 0);
-            self.begun.reached = u32::MAX;
+            self.send_to(self.begun.write);
         }
         self.read(counts);
     }
@@ -238,15 +243,15 @@ fn add(ledger: &mut [u8], d: &[u8]) {
     }
 }
 
-#[test]
-fn readings_are_the_ledger() {
-    let mut rng = Rng::new(41);
+/// Runs lists: every reading must be the ledger, or this panics.
+pub fn test(calls: &dyn Calls, seed: u64) {
+    let mut rng = Rng::new(seed);
     let mut counts = Counts::default();
     let mut starts: Vec<Shape> = (1..=5).flat_map(shapes).collect();
     starts.extend((0..1500).map(|_| any_shape(&mut rng, 32)));
     for shape in starts {
         let b = rng.range(1, 3);
-        let mut list = List::open(&mut rng, shape.with(b));
+        let mut list = List::open(calls, &mut rng, shape.with(b));
         for _ in 0..60 {
             list.any_event(&mut counts);
         }
