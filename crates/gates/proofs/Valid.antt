@@ -106,30 +106,35 @@ slack-fits {a} v = blocks-fit v (slackParts a) (slack-le a v)
 
 -- ---- each gate: what 0 says, and which numbers it can answer
 
-pub encode-accepted : (a : Params) (message slack codeword : ℕ)
-    → (encodeGate a message slack codeword ≡ 0) ↔ EncodeAccepted a message slack codeword
+pub encode-accepted : (a : Params) (message slack codeword serials : ℕ)
+    → (encodeGate a message slack codeword serials ≡ 0) ↔ EncodeAccepted a message slack codeword serials
 unfolding encodeGate
-encode-accepted a message slack codeword = (
+encode-accepted a message slack codeword serials = (
   λ e.
       let y = params-known a (all-yes _ tt e) in
-      let l = both-known (eqb message (a .k * a .b) && eqb slack (slackParts a * a .b)) (eqb codeword (a .n * a .b)) (y .1 .0) in
+      let u = both-known (eqb serials (a .n)) ((eqb message (a .k * a .b) && eqb slack (slackParts a * a .b)) && eqb codeword (a .n * a .b)) (y .1 .0) in
+      let l = both-known (eqb message (a .k * a .b) && eqb slack (slackParts a * a .b)) (eqb codeword (a .n * a .b)) (u .1) in
       let m = both-eq message (a .k * a .b) slack (slackParts a * a .b) (l .0) in
       record {
         valid = y .0;
         message-length = m .0;
         slack-length = m .1;
         codeword-length = eqb-true codeword (a .n * a .b) (l .1);
+        serials-length = eqb-true serials (a .n) (u .0);
       },
   λ d.
       first-zero _
-      (params-yes a (d .valid)
-      (ap₂ _&&_ (ap₂ _&&_ (eq-eqb _ _ (d .message-length)) (eq-eqb _ _ (d .slack-length))) (eq-eqb _ _ (d .codeword-length)), tt)),
+      (params-yes a (d .valid) (
+        ap₂ _&&_ (eq-eqb _ _ (d .serials-length))
+            (ap₂ _&&_ (ap₂ _&&_ (eq-eqb _ _ (d .message-length)) (eq-eqb _ _ (d .slack-length))) (eq-eqb _ _ (d .codeword-length))),
+        tt,
+      )),
 )
 
-pub encode-number : (a : Params) (message slack codeword : ℕ)
-    → List·Memᴰ (encodeGate a message slack codeword) (0 ∷ 1 ∷ 2 ∷ 3 ∷ 4 ∷ 5 ∷ 6 ∷ [])
+pub encode-number : (a : Params) (message slack codeword serials : ℕ)
+    → List·Memᴰ (encodeGate a message slack codeword serials) (0 ∷ 1 ∷ 2 ∷ 3 ∷ 4 ∷ 5 ∷ 6 ∷ [])
 unfolding encodeGate
-encode-number a message slack codeword = among _
+encode-number a message slack codeword serials = among _
 
 pub check-accepted : (a : Params) (codeword : ℕ) → (checkGate a codeword ≡ 0) ↔ CheckAccepted a codeword
 unfolding checkGate
@@ -192,41 +197,48 @@ pub delta-number : (a : Params) (change out to : ℕ)
 unfolding deltaGate
 delta-number a change out to = among _
 
-pub update-accepted : (a : Params) (codeword change to : ℕ)
-    → (updateGate a codeword change to ≡ 0) ↔ UpdateAccepted a codeword change to
+pub update-accepted : (a : Params) (codeword serials change to serial : ℕ)
+    → (updateGate a codeword serials change to serial ≡ 0) ↔ UpdateAccepted a codeword serials change to serial
 unfolding updateGate
-update-accepted a codeword change to = (
+update-accepted a codeword serials change to serial = (
   λ e.
       let y = params-known a (all-yes _ tt e) in
-      let l = both-eq codeword (a .n * a .b) change (a .k * a .b) (y .1 .0) in
+      let u = both-known (eqb serials (a .n)) (eqb codeword (a .n * a .b) && eqb change (a .k * a .b)) (y .1 .0) in
+      let l = both-eq codeword (a .n * a .b) change (a .k * a .b) (u .1) in
       record {
         valid = y .0;
         codeword-length = l .0;
+        serials-length = eqb-true serials (a .n) (u .0);
         change-length = l .1;
         to-within = y .1 .1 .0;
         to-size = eqb-true (size to) (a .w) (y .1 .1 .1 .0);
+        serial-low = leb-true 1 serial (y .1 .1 .1 .1 .0);
       },
   λ d.
       first-zero _
-      (params-yes a (d .valid)
-      (ap₂ _&&_ (eq-eqb _ _ (d .codeword-length)) (eq-eqb _ _ (d .change-length)), (d .to-within, (eq-eqb _ _ (d .to-size), tt)))),
+      (params-yes a (d .valid) (
+        ap₂ _&&_ (eq-eqb _ _ (d .serials-length)) (ap₂ _&&_ (eq-eqb _ _ (d .codeword-length)) (eq-eqb _ _ (d .change-length))),
+        (d .to-within, (eq-eqb _ _ (d .to-size), (le-leb _ _ (d .serial-low), tt))),
+      )),
 )
 
-pub update-number : (a : Params) (codeword change to : ℕ)
-    → List·Memᴰ (updateGate a codeword change to) (0 ∷ 1 ∷ 2 ∷ 3 ∷ 4 ∷ 5 ∷ 6 ∷ 7 ∷ 8 ∷ [])
+pub update-number : (a : Params) (codeword serials change to serial : ℕ)
+    → List·Memᴰ (updateGate a codeword serials change to serial) (0 ∷ 1 ∷ 2 ∷ 3 ∷ 4 ∷ 5 ∷ 6 ∷ 7 ∷ 8 ∷ 24 ∷ [])
 unfolding updateGate
-update-number a codeword change to = among _
+update-number a codeword serials change to serial = among _
 
-pub repair-accepted : (a : Params) (codeword from lost : ℕ)
-    → (repairGate a codeword from lost ≡ 0) ↔ RepairAccepted a codeword from lost
+pub repair-accepted : (a : Params) (codeword serials from lost : ℕ)
+    → (repairGate a codeword serials from lost ≡ 0) ↔ RepairAccepted a codeword serials from lost
 unfolding repairGate
-repair-accepted a codeword from lost = (
+repair-accepted a codeword serials from lost = (
   λ e.
       let y = params-known a (all-yes _ tt e) in
+      let l = both-eq serials (a .n) codeword (a .n * a .b) (y .1 .0) in
       let names = both-known (within (a .n) from) (within (a .n) lost) (y .1 .1 .0) in
       record {
         valid = y .0;
-        codeword-length = eqb-true codeword (a .n * a .b) (y .1 .0);
+        codeword-length = l .1;
+        serials-length = l .0;
         from-within = names .0;
         lost-within = names .1;
         from-size = eqb-true (size from) (a .r) (y .1 .1 .1 .0);
@@ -234,14 +246,16 @@ repair-accepted a codeword from lost = (
       },
   λ d.
       first-zero _
-      (params-yes a (d .valid)
-      (eq-eqb _ _ (d .codeword-length), (ap₂ _&&_ (d .from-within) (d .lost-within), (eq-eqb _ _ (d .from-size), (d .apart, tt))))),
+      (params-yes a (d .valid) (
+        ap₂ _&&_ (eq-eqb _ _ (d .serials-length)) (eq-eqb _ _ (d .codeword-length)),
+        (ap₂ _&&_ (d .from-within) (d .lost-within), (eq-eqb _ _ (d .from-size), (d .apart, tt))),
+      )),
 )
 
-pub repair-number : (a : Params) (codeword from lost : ℕ)
-    → List·Memᴰ (repairGate a codeword from lost) (0 ∷ 1 ∷ 2 ∷ 3 ∷ 4 ∷ 5 ∷ 6 ∷ 7 ∷ 8 ∷ 9 ∷ [])
+pub repair-number : (a : Params) (codeword serials from lost : ℕ)
+    → List·Memᴰ (repairGate a codeword serials from lost) (0 ∷ 1 ∷ 2 ∷ 3 ∷ 4 ∷ 5 ∷ 6 ∷ 7 ∷ 8 ∷ 9 ∷ [])
 unfolding repairGate
-repair-number a codeword from lost = among _
+repair-number a codeword serials from lost = among _
 
 pub damage-accepted : (n i : ℕ) → (damageGate n i ≡ 0) ↔ DamageAccepted n i
 unfolding damageGate
@@ -276,14 +290,17 @@ pub view-number : (a : Params) (codeword i : ℕ)
 unfolding viewGate
 view-number a codeword i = among _
 
-pub reconfigure-accepted : (a : Params) (t : Shape) (old new message from to : ℕ)
-    → (reconfigureGate a t old new message from to ≡ 0) ↔ ReconfigureAccepted a t old new message from to
+pub reconfigure-accepted : (a : Params) (t : Shape) (old serials new newSerials message from to : ℕ)
+    → (reconfigureGate a t old serials new newSerials message from to ≡ 0) ↔ ReconfigureAccepted a t old serials new newSerials message from to
 unfolding reconfigureGate
-reconfigure-accepted a t old new message from to = (
+reconfigure-accepted a t old serials new newSerials message from to = (
   λ e.
       let p = params-known a (all-yes _ tt e) in
       let y = shape-known 10 t (p .1) in
-      let l = both-known (eqb old (a .n * a .b) && eqb new (t .n * a .b)) (eqb message (t .k * a .b)) (y .1 .0) in
+      let u =
+      both-known (eqb serials (a .n) && eqb newSerials (t .n)) ((eqb old (a .n * a .b) && eqb new (t .n * a .b)) && eqb message (t .k * a .b)) (y .1 .0) in
+      let kept = both-eq serials (a .n) newSerials (t .n) (u .0) in
+      let l = both-known (eqb old (a .n * a .b) && eqb new (t .n * a .b)) (eqb message (t .k * a .b)) (u .1) in
       let records = both-eq old (a .n * a .b) new (t .n * a .b) (l .0) in
       let names = both-known (within (a .n) from) (within (t .n) to) (y .1 .1 .0) in
       let sizes = both-eq (size from) (a .r) (size to) (t .w) (y .1 .1 .1 .0) in
@@ -291,7 +308,9 @@ reconfigure-accepted a t old new message from to = (
         valid = p .0;
         valid-new = record { shape = y .0; b-low = p .0 .b-low; b-high = p .0 .b-high };
         old-length = records .0;
+        serials-length = kept .0;
         new-length = records .1;
+        new-serials-length = kept .1;
         message-length = eqb-true message (t .k * a .b) (l .1);
         from-within = names .0;
         to-within = names .1;
@@ -302,7 +321,8 @@ reconfigure-accepted a t old new message from to = (
       first-zero _
       (params-yes a (d .valid)
       (shape-yes 10 t (d .valid-new .shape) (
-        ap₂ _&&_ (ap₂ _&&_ (eq-eqb _ _ (d .old-length)) (eq-eqb _ _ (d .new-length))) (eq-eqb _ _ (d .message-length)),
+        ap₂ _&&_ (ap₂ _&&_ (eq-eqb _ _ (d .serials-length)) (eq-eqb _ _ (d .new-serials-length)))
+            (ap₂ _&&_ (ap₂ _&&_ (eq-eqb _ _ (d .old-length)) (eq-eqb _ _ (d .new-length))) (eq-eqb _ _ (d .message-length))),
         (
           ap₂ _&&_ (d .from-within) (d .to-within),
           (ap₂ _&&_ (eq-eqb _ _ (d .from-size)) (eq-eqb _ _ (d .to-size)), tt),
@@ -310,7 +330,7 @@ reconfigure-accepted a t old new message from to = (
       ))),
 )
 
-pub reconfigure-number : (a : Params) (t : Shape) (old new message from to : ℕ)
-    → List·Memᴰ (reconfigureGate a t old new message from to) (0 ∷ 1 ∷ 2 ∷ 3 ∷ 4 ∷ 5 ∷ 11 ∷ 12 ∷ 13 ∷ 14 ∷ 6 ∷ 7 ∷ 8 ∷ [])
+pub reconfigure-number : (a : Params) (t : Shape) (old serials new newSerials message from to : ℕ)
+    → List·Memᴰ (reconfigureGate a t old serials new newSerials message from to) (0 ∷ 1 ∷ 2 ∷ 3 ∷ 4 ∷ 5 ∷ 11 ∷ 12 ∷ 13 ∷ 14 ∷ 6 ∷ 7 ∷ 8 ∷ [])
 unfolding reconfigureGate
-reconfigure-number a t old new message from to = among _
+reconfigure-number a t old serials new newSerials message from to = among _

@@ -27,7 +27,8 @@ blockAsked a = ask (leb 1 (a .b) && leb (a .b) 1024) 5
 abbrev pub paramsAsked : Params → List Question
 paramsAsked a = shapeAsked 0 (shapeOf a) ++ (blockAsked a ∷ [])
 
--- "Has each lent slice its exact length? No: 6."
+-- "Has each lent slice its exact length? No: 6." Serials are "a slice of n numbers lent to set-up, change, rebuild and rearrangement (old and new) under
+-- question 6" (document 02, 2026-03).
 abbrev pub lengthsAsked : Bool → Question
 lengthsAsked right = ask right 6
 
@@ -43,16 +44,20 @@ sizesAsked right = ask right 8
 abbrev pub freeAsked : ℕ → ℕ → Question
 freeAsked l r = ask (disjoint l r) 9
 
+-- "Errors: 24, serial is 0, put after question 8" (document 02, 2026-03).
+abbrev pub serialAsked : ℕ → Question
+serialAsked serial = ask (leb 1 serial) 24
+
 -- "Is the trap number from 1 to n? No: 10."
 abbrev pub nodeAsked : ℕ → ℕ → Question
 nodeAsked n i = ask (leb 1 i && leb i n) 10
 
--- ".. and 6, and then: set-up and check nothing more": set-up, with the lengths of message, slack and record
-unfoldable pub encodeGate : Params → ℕ → ℕ → ℕ → ℕ
-encodeGate a message slack codeword =
+-- ".. and 6, and then: set-up and check nothing more": set-up, with the lengths of message, slack, record and serials
+unfoldable pub encodeGate : Params → ℕ → ℕ → ℕ → ℕ → ℕ
+encodeGate a message slack codeword serials =
     firstNo
     (paramsAsked a ++
-    lengthsAsked ((eqb message (a .k * a .b) && eqb slack (slackParts a * a .b)) && eqb codeword (a .n * a .b)) ∷ [])
+    lengthsAsked (eqb serials (a .n) && ((eqb message (a .k * a .b) && eqb slack (slackParts a * a .b)) && eqb codeword (a .n * a .b))) ∷ [])
 
 -- check
 unfoldable pub checkGate : Params → ℕ → ℕ
@@ -72,30 +77,31 @@ deltaGate a change out to =
     (paramsAsked a ++ lengthsAsked (eqb change (a .k * a .b) && eqb out (a .w * a .b)) ∷
     namesAsked (within (a .n) to) ∷ sizesAsked (eqb (size to) (a .w)) ∷ [])
 
--- change, with the lengths of the record and of d, and W
-unfoldable pub updateGate : Params → ℕ → ℕ → ℕ → ℕ
-updateGate a codeword change to =
+-- change, with the lengths of record, serials and d, W and the serial
+unfoldable pub updateGate : Params → ℕ → ℕ → ℕ → ℕ → ℕ → ℕ
+updateGate a codeword serials change to serial =
     firstNo
-    (paramsAsked a ++ lengthsAsked (eqb codeword (a .n * a .b) && eqb change (a .k * a .b)) ∷
-    namesAsked (within (a .n) to) ∷ sizesAsked (eqb (size to) (a .w)) ∷ [])
+    (paramsAsked a ++ lengthsAsked (eqb serials (a .n) && (eqb codeword (a .n * a .b) && eqb change (a .k * a .b))) ∷
+    namesAsked (within (a .n) to) ∷ sizesAsked (eqb (size to) (a .w)) ∷ serialAsked serial ∷ [])
 
--- "rebuild 7, 8, 9", with the record's length, R and L
-unfoldable pub repairGate : Params → ℕ → ℕ → ℕ → ℕ
-repairGate a codeword from lost =
+-- "rebuild 7, 8, 9", with the lengths of record and serials, R and L
+unfoldable pub repairGate : Params → ℕ → ℕ → ℕ → ℕ → ℕ
+repairGate a codeword serials from lost =
     firstNo
-    (paramsAsked a ++ lengthsAsked (eqb codeword (a .n * a .b)) ∷
+    (paramsAsked a ++ lengthsAsked (eqb serials (a .n) && eqb codeword (a .n * a .b)) ∷
     namesAsked (within (a .n) from && within (a .n) lost) ∷ sizesAsked (eqb (size from) (a .r)) ∷ freeAsked lost from ∷ [])
 
 -- "view 10", with the record's length and the trap number
 unfoldable pub viewGate : Params → ℕ → ℕ → ℕ
 viewGate a codeword i = firstNo (paramsAsked a ++ lengthsAsked (eqb codeword (a .n * a .b)) ∷ nodeAsked (a .n) i ∷ [])
 
--- "rearrangement 11 to 14 before 6, then 7, 8", with the lengths of the old record, the new one and the new message, R and W'
-unfoldable pub reconfigureGate : Params → Shape → ℕ → ℕ → ℕ → ℕ → ℕ → ℕ
-reconfigureGate a t old new message from to =
+-- "rearrangement 11 to 14 before 6, then 7, 8", with the lengths of record and serials, the old and the new ones, and of the new message, R and W'
+unfoldable pub reconfigureGate : Params → Shape → ℕ → ℕ → ℕ → ℕ → ℕ → ℕ → ℕ → ℕ
+reconfigureGate a t old serials new newSerials message from to =
     firstNo
     ((paramsAsked a ++ shapeAsked 10 t) ++
-    lengthsAsked ((eqb old (a .n * a .b) && eqb new (t .n * a .b)) && eqb message (t .k * a .b)) ∷
+    lengthsAsked
+    ((eqb serials (a .n) && eqb newSerials (t .n)) && ((eqb old (a .n * a .b) && eqb new (t .n * a .b)) && eqb message (t .k * a .b))) ∷
     namesAsked (within (a .n) from && within (t .n) to) ∷ sizesAsked (eqb (size from) (a .r) && eqb (size to) (t .w)) ∷ [])
 
 -- "A damage event puts only 10."

@@ -24,11 +24,12 @@ pub record Valid (a : Params) : Type 0 where
   pub b-low : 1 ≤ a .b
   pub b-high : a .b ≤ 1024
 
-pub record EncodeAccepted (a : Params) (message slack codeword : ℕ) : Type 0 where
+pub record EncodeAccepted (a : Params) (message slack codeword serials : ℕ) : Type 0 where
   pub valid : Valid a
   pub message-length : message ≡ a .k * a .b
   pub slack-length : slack ≡ slackParts a * a .b
   pub codeword-length : codeword ≡ a .n * a .b
+  pub serials-length : serials ≡ a .n
 
 pub record CheckAccepted (a : Params) (codeword : ℕ) : Type 0 where
   pub valid : Valid a
@@ -48,16 +49,19 @@ pub record DeltaAccepted (a : Params) (change out to : ℕ) : Type 0 where
   pub to-within : within (a .n) to ≡ true
   pub to-size : size to ≡ a .w
 
-pub record UpdateAccepted (a : Params) (codeword change to : ℕ) : Type 0 where
+pub record UpdateAccepted (a : Params) (codeword serials change to serial : ℕ) : Type 0 where
   pub valid : Valid a
   pub codeword-length : codeword ≡ a .n * a .b
+  pub serials-length : serials ≡ a .n
   pub change-length : change ≡ a .k * a .b
   pub to-within : within (a .n) to ≡ true
   pub to-size : size to ≡ a .w
+  pub serial-low : 1 ≤ serial
 
-pub record RepairAccepted (a : Params) (codeword from lost : ℕ) : Type 0 where
+pub record RepairAccepted (a : Params) (codeword serials from lost : ℕ) : Type 0 where
   pub valid : Valid a
   pub codeword-length : codeword ≡ a .n * a .b
+  pub serials-length : serials ≡ a .n
   pub from-within : within (a .n) from ≡ true
   pub lost-within : within (a .n) lost ≡ true
   pub from-size : size from ≡ a .r
@@ -73,11 +77,13 @@ pub record ViewAccepted (a : Params) (codeword i : ℕ) : Type 0 where
   pub codeword-length : codeword ≡ a .n * a .b
   pub node : DamageAccepted (a .n) i
 
-pub record ReconfigureAccepted (a : Params) (t : Shape) (old new message from to : ℕ) : Type 0 where
+pub record ReconfigureAccepted (a : Params) (t : Shape) (old serials new newSerials message from to : ℕ) : Type 0 where
   pub valid : Valid a
   pub valid-new : Valid (reshaped a t)
   pub old-length : old ≡ a .n * a .b
+  pub serials-length : serials ≡ a .n
   pub new-length : new ≡ t .n * a .b
+  pub new-serials-length : newSerials ≡ t .n
   pub message-length : message ≡ t .k * a .b
   pub from-within : within (a .n) from ≡ true
   pub to-within : within (t .n) to ≡ true

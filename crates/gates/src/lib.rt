@@ -56,16 +56,17 @@ fn answers_gate(lengths: bool, names: bool, sizes: bool, free: bool) -> u32
     0
 }
 
-// Set-up, with the lengths of message, slack and record.
-pub fn encode_gate(a: Params, message: usize, slack: usize, codeword: usize) -> u32
-    ensures { λ r. ⌜ r ≡ encodeGate a message slack codeword ⌝ }
+// Set-up, with the lengths of message, slack, record and serials.
+pub fn encode_gate(a: Params, message: usize, slack: usize, codeword: usize, serials: usize) -> u32
+    ensures { λ r. ⌜ r ≡ encodeGate a message slack codeword serials ⌝ }
 {
     let params = params_gate(a);
     if params != 0 {
         return params;
     }
     answers_gate(
-        (message == a.k * a.b) & (slack == a.slack_parts() * a.b) & (codeword == a.n * a.b),
+        (serials == a.n)
+            & ((message == a.k * a.b) & (slack == a.slack_parts() * a.b) & (codeword == a.n * a.b)),
         true,
         true,
         true,
@@ -83,9 +84,11 @@ pub fn check_gate(a: Params, codeword: usize) -> u32
     answers_gate(codeword == a.n * a.b, true, true, true)
 }
 
-// Questions 1 to 8 of a call with one set and two slices: the first is to have x blocks, the second y.
+// Questions 1 to 8 of a call with one set and two slices of bytes: the first is to have x blocks, the second y. Whether all else that is lent has its length is
+// told by others.
 fn set_call_gate(
     a: Params,
+    others: bool,
     first: usize,
     x: usize,
     second: usize,
@@ -94,7 +97,7 @@ fn set_call_gate(
     wanted: usize,
 ) -> u32
     requires { ⌜ (Valid a → (x ≤ a .n) × (y ≤ a .n)) ⌝ }
-    ensures { λ r. ⌜ r ≡ firstNo (paramsAsked a ++ lengthsAsked (eqb first (x * a .b) && eqb second (y * a .b)) ∷
+    ensures { λ r. ⌜ r ≡ firstNo (paramsAsked a ++ lengthsAsked (others && (eqb first (x * a .b) && eqb second (y * a .b))) ∷
         namesAsked (within (a .n) (set .0)) ∷ sizesAsked (eqb (size (set .0)) wanted) ∷ []) ⌝ }
 {
     let params = params_gate(a);
@@ -102,7 +105,7 @@ fn set_call_gate(
         return params;
     }
     answers_gate(
-        (first == x * a.b) & (second == y * a.b),
+        others & ((first == x * a.b) & (second == y * a.b)),
         set.within(a.n),
         set.size() == wanted,
         true,
@@ -113,33 +116,47 @@ fn set_call_gate(
 pub fn decode_gate(a: Params, codeword: usize, out: usize, from: NodeSet) -> u32
     ensures { λ r. ⌜ r ≡ decodeGate a codeword out (from .0) ⌝ }
 {
-    set_call_gate(a, codeword, a.n, out, a.k, from, a.r)
+    set_call_gate(a, true, codeword, a.n, out, a.k, from, a.r)
 }
 
 // Difference, with the lengths of d and of the buffer for the differences, and W.
 pub fn delta_gate(a: Params, change: usize, out: usize, to: NodeSet) -> u32
     ensures { λ r. ⌜ r ≡ deltaGate a change out (to .0) ⌝ }
 {
-    set_call_gate(a, change, a.k, out, a.w, to, a.w)
+    set_call_gate(a, true, change, a.k, out, a.w, to, a.w)
 }
 
-// Change, with the lengths of the record and of d, and W.
-pub fn update_gate(a: Params, codeword: usize, change: usize, to: NodeSet) -> u32
-    ensures { λ r. ⌜ r ≡ updateGate a codeword change (to .0) ⌝ }
+// Change, with the lengths of record, serials and d, W and the serial.
+pub fn update_gate(
+    a: Params,
+    codeword: usize,
+    serials: usize,
+    change: usize,
+    to: NodeSet,
+    serial: u32,
+) -> u32
+    ensures { λ r. ⌜ r ≡ updateGate a codeword serials change (to .0) serial ⌝ }
 {
-    set_call_gate(a, codeword, a.n, change, a.k, to, a.w)
+    let refusal = set_call_gate(a, serials == a.n, codeword, a.n, change, a.k, to, a.w);
+    if refusal != 0 {
+        return refusal;
+    }
+    if serial < 1 {
+        return 24;
+    }
+    0
 }
 
-// Rebuild, with the record's length, R and L.
-pub fn repair_gate(a: Params, codeword: usize, from: NodeSet, lost: NodeSet) -> u32
-    ensures { λ r. ⌜ r ≡ repairGate a codeword (from .0) (lost .0) ⌝ }
+// Rebuild, with the lengths of record and serials, R and L.
+pub fn repair_gate(a: Params, codeword: usize, serials: usize, from: NodeSet, lost: NodeSet) -> u32
+    ensures { λ r. ⌜ r ≡ repairGate a codeword serials (from .0) (lost .0) ⌝ }
 {
     let params = params_gate(a);
     if params != 0 {
         return params;
     }
     answers_gate(
-        codeword == a.n * a.b,
+        (serials == a.n) & (codeword == a.n * a.b),
         from.within(a.n) & lost.within(a.n),
         from.size() == a.r,
         lost.disjoint(from),
@@ -158,17 +175,19 @@ pub fn view_gate(a: Params, codeword: usize, node: Node) -> u32
     number
 }
 
-// Rearrangement, with the lengths of the old record, the new one and the new message, R and W'.
+// Rearrangement, with the lengths of record and serials, the old and the new ones, and of the new message, R and W'.
 pub fn reconfigure_gate(
     a: Params,
     t: Shape,
     old: usize,
+    serials: usize,
     new: usize,
+    fresh: usize,
     message: usize,
     from: NodeSet,
     to: NodeSet,
 ) -> u32
-    ensures { λ r. ⌜ r ≡ reconfigureGate a t old new message (from .0) (to .0) ⌝ }
+    ensures { λ r. ⌜ r ≡ reconfigureGate a t old serials new fresh message (from .0) (to .0) ⌝ }
 {
     let old_shape = params_gate(a);
     let new_shape = params_gate(Params {
@@ -185,7 +204,8 @@ pub fn reconfigure_gate(
         return new_shape + 10;
     }
     answers_gate(
-        (old == a.n * a.b) & (new == t.n * a.b) & (message == t.k * a.b),
+        ((serials == a.n) & (fresh == t.n))
+            & ((old == a.n * a.b) & (new == t.n * a.b) & (message == t.k * a.b)),
         from.within(a.n) & to.within(t.n),
         (from.size() == a.r) & (to.size() == t.w),
         true,

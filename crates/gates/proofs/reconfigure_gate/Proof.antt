@@ -22,7 +22,8 @@ use Rattle.gates.proofs.reconfigure_gate.Tie as tie
 abbrev lengths : tie.After-params-gate → Bool
 lengths c =
     let s = c .before .args in
-    (eqb (s .old) (s .a .n * s .a .b) && eqb (s .new) (s .t .n * s .a .b)) && eqb (s .message) (s .t .k * s .a .b)
+    (eqb (s .serials) (s .a .n) && eqb (s .fresh) (s .t .n))
+    && ((eqb (s .old) (s .a .n * s .a .b) && eqb (s .new) (s .t .n * s .a .b)) && eqb (s .message) (s .t .k * s .a .b))
 
 abbrev names : tie.After-params-gate → Bool
 names c = let s = c .before .args in within (s .a .n) (s .from .0) && within (s .t .n) (s .to .0)
@@ -92,13 +93,13 @@ returns-2 c =
     onward e (refused (shapeAsked 10 (e .before .before .before .args .t)) (rest (e .before .before)) (numbered c) (λ z. omega (arith, z)))
 
 mul-answers-gate : tie.Need-mul-answers-gate
-mul-answers-gate c = n-fits (valid (c .before .before))
+mul-answers-gate c = n-fits (valid (c .before .before .before .before))
 
 mul-answers-gate-2 : tie.Need-mul-answers-gate-2
-mul-answers-gate-2 c = n-fits (valid-new (c .before .before .before))
+mul-answers-gate-2 c = n-fits (valid-new (c .before .before .before .before .before))
 
 mul-answers-gate-3 : tie.Need-mul-answers-gate-3
-mul-answers-gate-3 c = k-fits (valid-new (c .before .before .before .before .before))
+mul-answers-gate-3 c = k-fits (valid-new (c .before .before .before .before .before .before .before))
 
 within-requires : tie.Need-within-requires
 within-requires c κs = search needs
@@ -120,7 +121,7 @@ unfolding reconfigureGate
 returns-3 c =
     let sized = c .before .before in
     let named = sized .before .before .before in
-    let f = named .before .before .before .before .before .before .before in
+    let f = named .before .before .before .before .before .before .before .before .before in
     let e = f .before in
     let start = e .before .before in
     let s = start .before .args in

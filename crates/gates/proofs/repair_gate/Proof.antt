@@ -1,4 +1,4 @@
--- The questions on the parameters are another gate's; then the length and the two sets. Assumes nothing.
+-- The questions on the parameters are another gate's; then the lengths and the two sets. Assumes nothing.
 use mathlib.Core.Path.{refl, ap, ap₂}
 use mathlib.Core.Bool.{_&&_}
 use mathlib.Core.List.{[], _∷_}
@@ -25,7 +25,7 @@ unfolding repairGate
 returns c = refused (paramsAsked (c .before .before .args .a)) _ (c .before .params-gate .ensures) (c .if1 .taken)
 
 mul-answers-gate : tie.Need-mul-answers-gate
-mul-answers-gate c = n-fits (valid (c .before))
+mul-answers-gate c = n-fits (valid (c .before .before))
 
 within-requires : tie.Need-within-requires
 within-requires c κs = search needs
@@ -45,10 +45,10 @@ answers-gate-requires c κs = search needs
 returns-2 : tie.Need-returns-2
 unfolding repairGate
 returns-2 c =
-    let e = c .before .before .before .before .before .before .before in
+    let e = c .before .before .before .before .before .before .before .before in
     let s = e .before .before .args in
     let sized = c .before .before .before in
-    let lengths = eqb (s .codeword) (s .a .n * s .a .b) in
+    let lengths = eqb (s .serials) (s .a .n) && eqb (s .codeword) (s .a .n * s .a .b) in
     let names = within (s .a .n) (s .from .0) && within (s .a .n) (s .lost .0) in
     let sizes = eqb (size (s .from .0)) (s .a .r) in
     let free = disjoint (s .lost .0) (s .from .0) in

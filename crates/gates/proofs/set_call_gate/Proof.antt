@@ -43,7 +43,7 @@ returns-2 : tie.Need-returns-2
 returns-2 c =
     let e = c .before .before .before .before .before in
     let s = e .before .before .args in
-    let lengths = eqb (s .first) (s .x * s .a .b) && eqb (s .second) (s .y * s .a .b) in
+    let lengths = s .others && (eqb (s .first) (s .x * s .a .b) && eqb (s .second) (s .y * s .a .b)) in
     let names = within (s .a .n) (s .set .0) in
     let sizes = eqb (size (s .set .0)) (s .wanted) in
     passed (paramsAsked (s .a)) (lengthsAsked lengths ∷ namesAsked names ∷ sizesAsked sizes ∷ []) tt (e .before .params-gate .ensures) (e .if1 .left)
