@@ -296,3 +296,22 @@ low-same (suc k) l r h =
 -- sets with the same nodes are equal
 pub same-set : (l r : ℕ) → l < 2 ^ 32 → r < 2 ^ 32 → ((i : ℕ) → has l i ≡ has r i) → l ≡ r
 same-set l r hl hr h = sym (mod-eq-of-lt hl) ∙ low-same 32 l r h ∙ mod-eq-of-lt hr
+
+-- Two tests that together are passed more often than there are nodes are both passed by some node.
+abbrev pub Both : (ℕ → Bool) → (ℕ → Bool) → ℕ → Type 0
+Both f g n = (j : ℕ) × (j < n) × (f (suc j) ≡ true) × (g (suc j) ≡ true)
+
+pub meet : (f g : ℕ → Bool) (n : ℕ) → n < count f n + count g n → Both f g n
+unfolding count
+meet f g zero h = absurd (omega arith)
+meet f g (suc n) h = go (f (suc n)) refl (g (suc n)) refl (meet f g n) h
+  where
+    higher : Both f g n → Both f g (suc n)
+    higher m = (m .0, omega (arith, m .1), m .2, m .3)
+
+    go : (b : Bool) → f (suc n) ≡ b → (c : Bool) → g (suc n) ≡ c → (n < count f n + count g n → Both f g n)
+        → suc n < (count f n + one b) + (count g n + one c) → Both f g (suc n)
+    go true e true e′ below k = (n, le-refl (suc n), e, e′)
+    go true e false e′ below k = higher (below (omega arith))
+    go false e true e′ below k = higher (below (omega arith))
+    go false e false e′ below k = higher (below (omega arith))
