@@ -1,5 +1,5 @@
--- Each call's post-condition is met by exactly one answer and one content of its buffer: the answer is the gate's, and each byte of a served buffer is told
--- through the one pair or the one slack (Pairs.antt). Assumes nothing.
+-- Each call's post-condition is met by exactly one answer and one content of its buffers: the answer is the gate's, each byte of a served buffer is told
+-- through the one pair or the one slack (Pairs.antt), and each serial by who takes which. Assumes nothing.
 use mathlib.Core.Path.{_≡_, refl, sym, ap, _∙_, subst}
 use mathlib.Core.Logic.{⊎-elim}
 use mathlib.Core.Bool.{Bool, true, false, cond}
@@ -7,7 +7,7 @@ use mathlib.Core.List.{List, []}
 use Prim.Native.Nat.{ℕ, zero, suc, _*_, _<_}
 use native.Mathlib.Omega.{arith}
 use native.Mathlib.Decide.{ℕ-discrete}
-use lib.ListN.{length, getD}
+use lib.ListN.{length, getD, replicate}
 use Rattle.base.specs.Seq.{cell, blocks}
 use Rattle.base.proofs.Below.{all-below}
 use Rattle.base.proofs.Cases.{lt-or, eq-or}
@@ -21,8 +21,10 @@ use Rattle.params.specs.declared.Params.{Params}
 use Rattle.params.specs.declared.Shape.{Shape}
 use Rattle.params.proofs.Sets.{rank-lt, node-at-rank, entry, within-size}
 use Rattle.gates.proofs.Valid.{encode-accepted, check-accepted, decode-accepted, delta-accepted, update-accepted, repair-accepted, reconfigure-accepted}
+use Rattle.serials.specs.Serials.{takes, highest, Stamped}
+use Rattle.serials.proofs.Laws.{stamped-exists, stamped-unique}
 use Rattle.code.specs.Code.{block, used, upTo}
-use Rattle.code.specs.Calls.{Post, Encoded, EncodePost, Decoded, DecodePost, Differences, DeltaPost, Updated, UpdatePost, Repaired, RepairPost, writes, Reconfigured, ReconfigurePost, number, nodeNumber, Proper, Same, Checked, CheckPost, ViewPost}
+use Rattle.code.specs.Calls.{Post, Unwritten, Encoded, EncodePost, Decoded, DecodePost, Differences, DeltaPost, Updated, UpdatePost, Repaired, RepairPost, writes, Reconfigured, ReconfigurePost, number, nodeNumber, Proper, Same, Checked, CheckPost, ViewPost}
 use Rattle.code.specs.declared.Verdict.{Verdict}
 use Rattle.code.specs.declared.Verdict.the-variants.{Refused, Agrees, Differs}
 use Rattle.code.proofs.Pairs.{slack-exists, slack-unique, written-leaves, spread-exists, spread-unique, pair-exists, pair-unique, pair-blocks, from-reads, first-reads}
@@ -35,6 +37,15 @@ Met P = (answer : ℕ) × (new : List ℕ) × P answer new
 -- .. and only one.
 abbrev pub Once : (ℕ → List ℕ → Type 0) → Type 0
 Once P = (answer answer′ : ℕ) (new new′ : List ℕ) → P answer new → P answer′ new′ → (answer ≡ answer′) × (new ≡ new′)
+
+-- The same for a call with a buffer of bytes and one of serials.
+abbrev pub BothMet : (ℕ → List ℕ → List ℕ → Type 0) → Type 0
+BothMet P = (answer : ℕ) × (new : List ℕ) × (serials : List ℕ) × P answer new serials
+
+abbrev pub BothOnce : (ℕ → List ℕ → List ℕ → Type 0) → Type 0
+BothOnce P =
+    (answer answer′ : ℕ) (new new′ serials serials′ : List ℕ) → P answer new serials → P answer′ new′ serials′
+    → (answer ≡ answer′) × (new ≡ new′) × (serials ≡ serials′)
 
 -- two answers of one gate: both served or both refused
 alike : {gate answer answer′ : ℕ} {A A′ B B′ C : Type 0} → (gate ≡ 0 → A → A′ → C) → (B → B′ → C) → Post gate answer A B → Post gate answer′ A′ B′ → C
@@ -51,6 +62,24 @@ module _ (gate : ℕ) (Served : List ℕ → Type 0) (old : List ℕ) where
 
   post-once : (gate ≡ 0 → (new new′ : List ℕ) → Served new → Served new′ → new ≡ new′) → Once (λ answer new. Post gate answer (Served new) (new ≡ old))
   post-once f answer answer′ new new′ t t′ = (t .number ∙ sym (t′ .number), alike (λ z. f z new new′) (λ e e′. e ∙ sym e′) t t′)
+
+-- for one with two buffers, each of the two as it is served
+module _ (gate : ℕ) (Bytes Serials : List ℕ → Type 0) (old serials : List ℕ) where
+  abbrev Posted : ℕ → List ℕ → List ℕ → Type 0
+  Posted answer new serials′ = Post gate answer (Bytes new × Serials serials′) (Unwritten old serials new serials′)
+
+  both-met : (gate ≡ 0 → (new : List ℕ) × Bytes new) → (gate ≡ 0 → (new : List ℕ) × Serials new) → BothMet Posted
+  both-met f g =
+      ⊎-elim (λ z. (gate, f z .0, g z .0, record { number = refl; served = λ _. (f z .1, g z .1); refused = λ ne. absurd (ne z) }))
+      (λ ne. (gate, old, serials, record { number = refl; served = λ z. absurd (ne z); refused = λ _. (refl, refl) })) (eq-or gate 0)
+
+  both-once : (gate ≡ 0 → (new new′ : List ℕ) → Bytes new → Bytes new′ → new ≡ new′)
+      → (gate ≡ 0 → (new new′ : List ℕ) → Serials new → Serials new′ → new ≡ new′) → BothOnce Posted
+  both-once f g answer answer′ new new′ s s′ t t′ = (
+    t .number ∙ sym (t′ .number),
+    alike (λ z u u′. f z new new′ (u .0) (u′ .0)) (λ e e′. e .0 ∙ sym (e′ .0)) t t′,
+    alike (λ z u u′. g z s s′ (u .1) (u′ .1)) (λ e e′. e .1 ∙ sym (e′ .1)) t t′,
+  )
 
 -- ---- a list told at the nodes that pass a test by f, at the others by g
 
@@ -84,21 +113,23 @@ module _ (b n : ℕ) (S : ℕ → Bool) (f g : ℕ → ℕ → ℕ) where
 
 -- ---- encode
 
-module _ (a : Params) (x v old : List ℕ) where
-  pub encode-met : Met (EncodePost a x v old)
+module _ (a : Params) (x v old serials : List ℕ) where
+  pub encode-met : BothMet (EncodePost a x v old serials)
   encode-met =
-      post-met _ (Encoded a x v) old
+      both-met _ (Encoded a x v) (λ s. s ≡ replicate (a .n) 0) old serials
       (λ z. (
         blocks (a .b) (a .n) (λ j. block a x v (suc j)),
         record { length-is = length-blocks (a .b) (a .n) _; holds = λ j p hj hp. cell-blocks (a .b) (a .n) (λ j. block a x v (suc j)) j p hj hp },
       ))
+      (λ z. (_, refl))
 
-  pub encode-once : Once (EncodePost a x v old)
+  pub encode-once : BothOnce (EncodePost a x v old serials)
   encode-once =
-      post-once _ (Encoded a x v) old
+      both-once _ (Encoded a x v) (λ s. s ≡ replicate (a .n) 0) old serials
       (λ z new new′ e e′.
-      let g = encode-accepted a _ _ _ .0 z in
+      let g = encode-accepted a _ _ _ _ .0 z in
       cells-ext (a .b) (a .n) new new′ (g .valid .b-low) (e .length-is) (e′ .length-is) (λ j p hj hp. e .holds j p hj hp ∙ sym (e′ .holds j p hj hp)))
+      (λ z s s′ e e′. e ∙ sym e′)
 
 -- ---- decode
 
@@ -158,55 +189,67 @@ module _ (a : Params) (d : List ℕ) (to : ℕ) (old : List ℕ) where
 
 -- ---- update
 
-module _ (a : Params) (d : List ℕ) (to : ℕ) (old : List ℕ) where
+module _ (a : Params) (ok : Valid a) (d : List ℕ) (to : ℕ) (hw : within (a .n) to ≡ true) (hs : size to ≡ a .w) (old : List ℕ) (taking : ℕ → Bool) where
   -- the cell after the change, where v is the slack
   sums : List ℕ → ℕ → ℕ → ℕ
   sums v j p = add (cell (a .b) old j p) (block a d v (suc j) p)
 
-  pub update-met : Met (UpdatePost a d to old)
+  pub updated-exists : (new : List ℕ) × Updated a old d to taking new
   unfolding sums
-  update-met =
-      post-met _ (Updated a old d to) old
-      (λ z.
-      let g = update-accepted a _ _ _ .0 z in
-      let s = spread-exists a to (g .valid) (g .to-within) (g .to-size) d in
-      let n = split-exists (a .b) (a .n) (has to) (sums (s .0)) (cell (a .b) old) in
-      (n .0, record { slack = s .0; vanishes = s .1; length-is = n .1 .length-is; added = n .1 .passed; kept = n .1 .other }))
+  updated-exists =
+      let s = spread-exists a to ok hw hs d in
+      let n = split-exists (a .b) (a .n) taking (sums (s .0)) (cell (a .b) old) in
+      (n .0, record { slack = s .0; vanishes = s .1; length-is = n .1 .length-is; added = n .1 .passed; kept = n .1 .other })
 
-  pub update-once : Once (UpdatePost a d to old)
+  pub updated-unique : (new new′ : List ℕ) → Updated a old d to taking new → Updated a old d to taking new′ → new ≡ new′
   unfolding sums
+  updated-unique new new′ u u′ =
+      let same = spread-unique a to ok hw hs d (u .slack) (u′ .slack) (u .vanishes) (u′ .vanishes) in
+      split-unique (a .b) (a .n) taking (sums (u .slack)) (cell (a .b) old) (sums (u′ .slack)) new new′ (ok .b-low) (λ j p. ap (λ (v : List ℕ). sums v j p) same)
+      (record { length-is = u .length-is; passed = u .added; other = u .kept })
+      (record { length-is = u′ .length-is; passed = u′ .added; other = u′ .kept })
+
+module _ (a : Params) (d : List ℕ) (to serial reached : ℕ) (old serials : List ℕ) where
+  abbrev taking : ℕ → Bool
+  taking = takes to reached serials serial
+
+  pub update-met : BothMet (UpdatePost a d to serial reached old serials)
+  update-met =
+      both-met _ (Updated a old d to taking) (Stamped (a .n) taking serial serials) old serials
+      (λ z. let g = update-accepted a _ _ _ _ _ .0 z in updated-exists a (g .valid) d to (g .to-within) (g .to-size) old taking)
+      (λ z. stamped-exists (a .n) taking serial serials)
+
+  pub update-once : BothOnce (UpdatePost a d to serial reached old serials)
   update-once =
-      post-once _ (Updated a old d to) old
-      (λ z new new′ u u′.
-      let g = update-accepted a _ _ _ .0 z in
-      let same = spread-unique a to (g .valid) (g .to-within) (g .to-size) d (u .slack) (u′ .slack) (u .vanishes) (u′ .vanishes) in
-      split-unique (a .b) (a .n) (has to) (sums (u .slack)) (cell (a .b) old) (sums (u′ .slack)) new new′ (g .valid .b-low)
-      (λ j p. ap (λ (v : List ℕ). sums v j p) same) (record { length-is = u .length-is; passed = u .added; other = u .kept })
-      (record { length-is = u′ .length-is; passed = u′ .added; other = u′ .kept }))
+      both-once _ (Updated a old d to taking) (Stamped (a .n) taking serial serials) old serials
+      (λ z. let g = update-accepted a _ _ _ _ _ .0 z in updated-unique a (g .valid) d to (g .to-within) (g .to-size) old taking)
+      (λ z s s′. stamped-unique)
 
 -- ---- repair
 
-module _ (a : Params) (from lost : ℕ) (old : List ℕ) where
-  pub repair-met : Bytes old → Met (RepairPost a from lost old)
+module _ (a : Params) (from lost : ℕ) (old serials : List ℕ) where
+  pub repair-met : Bytes old → BothMet (RepairPost a from lost old serials)
   repair-met bytes =
-      post-met _ (Repaired a old from lost) old
+      both-met _ (Repaired a old from lost) (Stamped (a .n) (has lost) (highest (has from) serials (a .n)) serials) old serials
       (λ z.
-      let g = repair-accepted a _ _ _ .0 z in
+      let g = repair-accepted a _ _ _ _ .0 z in
       let e = pair-exists a (g .valid) (used a from) (from-reads a from (g .valid) (g .from-within) (g .from-size)) old bytes in
       let n = split-exists (a .b) (a .n) (has lost) (λ j. block a (e .0) (e .1) (suc j)) (cell (a .b) old) in
       (n .0, record { message = e .0; slack = e .1; gives = e .2; length-is = n .1 .length-is; rebuilt = n .1 .passed; kept = n .1 .other }))
+      (λ z. stamped-exists (a .n) (has lost) (highest (has from) serials (a .n)) serials)
 
-  pub repair-once : Once (RepairPost a from lost old)
+  pub repair-once : BothOnce (RepairPost a from lost old serials)
   repair-once =
-      post-once _ (Repaired a old from lost) old
+      both-once _ (Repaired a old from lost) (Stamped (a .n) (has lost) (highest (has from) serials (a .n)) serials) old serials
       (λ z new new′ r r′.
-      let g = repair-accepted a _ _ _ .0 z in
+      let g = repair-accepted a _ _ _ _ .0 z in
       let full = from-reads a from (g .valid) (g .from-within) (g .from-size) in
       split-unique (a .b) (a .n) (has lost) (λ j. block a (r .message) (r .slack) (suc j)) (cell (a .b) old) (λ j. block a (r′ .message) (r′ .slack) (suc j)) new
       new′ (g .valid .b-low)
       (λ j. pair-blocks a (g .valid) (used a from) full (r .message) (r′ .message) (r .slack) (r′ .slack) old (r .gives) (r′ .gives) (suc j))
       (record { length-is = r .length-is; passed = r .rebuilt; other = r .kept })
       (record { length-is = r′ .length-is; passed = r′ .rebuilt; other = r′ .kept }))
+      (λ z s s′. stamped-unique)
 
 -- ---- reconfigure
 
@@ -219,12 +262,15 @@ module _ (a : Params) (t : Shape) (valid : Valid (reshaped a t)) (to : ℕ) (hw 
       (record { parts = r .pair .slack; equal = r .agrees })
       (record { parts = r′ .pair .slack; equal = λ j p hj s hp. r′ .agrees j p hj s hp ∙ sym (same (suc j) p) })
 
-module _ (a : Params) (t : Shape) (old : List ℕ) (from to : ℕ) (x buffer : List ℕ) where
-  pub reconfigure-met : Bytes old → Bytes x → Met (ReconfigurePost a t old from to x buffer)
+module _ (a : Params) (t : Shape) (old serials : List ℕ) (from to : ℕ) (x buffer numbers : List ℕ) where
+  abbrev Handed : List ℕ → Type 0
+  Handed = Stamped (t .n) (writes a to) (highest (has from) serials (a .n)) serials
+
+  pub reconfigure-met : Bytes old → Bytes x → BothMet (ReconfigurePost a t old serials from to x buffer numbers)
   reconfigure-met bytes hx =
-      post-met _ (Reconfigured a t old from to x) buffer
+      both-met _ (Reconfigured a t old from to x) Handed buffer numbers
       (λ z.
-      let g = reconfigure-accepted a t _ _ _ _ _ .0 z in
+      let g = reconfigure-accepted a t _ _ _ _ _ _ _ .0 z in
       let e = pair-exists a (g .valid) (used a from) (from-reads a from (g .valid) (g .from-within) (g .from-size)) old bytes in
       let s =
       slack-exists (reshaped a t) (g .valid-new) (has to) (written-leaves (reshaped a t) to (g .valid-new) (g .to-within) (g .to-size)) x
@@ -243,12 +289,13 @@ module _ (a : Params) (t : Shape) (old : List ℕ) (from to : ℕ) (x buffer : L
           copied = n .1 .other;
         },
       ))
+      (λ z. stamped-exists (t .n) (writes a to) (highest (has from) serials (a .n)) serials)
 
-  pub reconfigure-once : Once (ReconfigurePost a t old from to x buffer)
+  pub reconfigure-once : BothOnce (ReconfigurePost a t old serials from to x buffer numbers)
   reconfigure-once =
-      post-once _ (Reconfigured a t old from to x) buffer
+      both-once _ (Reconfigured a t old from to x) Handed buffer numbers
       (λ z new new′ r r′.
-      let g = reconfigure-accepted a t _ _ _ _ _ .0 z in
+      let g = reconfigure-accepted a t _ _ _ _ _ _ _ .0 z in
       let before =
       pair-blocks a (g .valid) (used a from) (from-reads a from (g .valid) (g .from-within) (g .from-size)) (r .oldMessage) (r′ .oldMessage) (r .oldSlack)
       (r′ .oldSlack) old (r .gives) (r′ .gives) in
@@ -257,6 +304,7 @@ module _ (a : Params) (t : Shape) (old : List ℕ) (from to : ℕ) (x buffer : L
       (λ j. block (reshaped a t) x (r′ .slack) (suc j)) new new′ (g .valid .b-low) (λ j p. ap (λ (v : List ℕ). block (reshaped a t) x v (suc j) p) same)
       (record { length-is = r .length-is; passed = r .written; other = r .copied })
       (record { length-is = r′ .length-is; passed = r′ .written; other = r′ .copied }))
+      (λ z s s′. stamped-unique)
 
 -- ---- check
 

@@ -4,4 +4,5 @@ pub mod Additivity
 pub mod Theorems
 pub mod Determined
 pub mod Posts
+pub mod Sends
 pub mod Used

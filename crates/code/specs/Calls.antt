@@ -5,7 +5,7 @@ use mathlib.Core.Bool.{Bool, true, false, _||_}
 use mathlib.Core.List.{List, []}
 use Prim.Native.Nat.{ℕ, suc, _-_, _*_, _<_}
 use lib.Dec.{ltb}
-use lib.ListN.{length, take, drop}
+use lib.ListN.{length, take, drop, replicate}
 use Rattle.base.specs.Seq.{cell}
 use Rattle.field.specs.Field.{add}
 use Rattle.params.specs.Nodes.{has, count}
@@ -13,6 +13,7 @@ use Rattle.params.specs.Params.{slackParts, working, reshaped}
 use Rattle.gates.specs.Gates.{encodeGate, decodeGate, deltaGate, updateGate, repairGate, checkGate, viewGate, reconfigureGate}
 use Rattle.params.specs.declared.Params.{Params}
 use Rattle.params.specs.declared.Shape.{Shape}
+use Rattle.serials.specs.Serials.{takes, highest, Stamped}
 use Rattle.code.specs.Code.{Parts, block, Pair, Gives, used, upTo}
 use Rattle.code.specs.declared.Verdict.{Verdict}
 use Rattle.code.specs.declared.Verdict.the-variants.{Refused, Agrees, Differs}
@@ -23,14 +24,20 @@ pub record Post (gate answer : ℕ) (WhenServed WhenRefused : Type 0) : Type 0 w
   pub served : answer ≡ 0 → WhenServed
   pub refused : (answer ≡ 0 → ⊥) → WhenRefused
 
--- ---- "Set-up: message and slack in, record written."
+-- Two buffers are as they were.
+abbrev pub Unwritten : List ℕ → List ℕ → List ℕ → List ℕ → Type 0
+Unwritten codeword serials codeword′ serials′ = (codeword′ ≡ codeword) × (serials′ ≡ serials)
+
+-- ---- "Set-up: message and slack in, record written." "Each trap gets a 32-bit serial, 0 after set-up" (document 02, 2026-03).
 
 pub record Encoded (a : Params) (x v new : List ℕ) : Type 0 where
   pub length-is : length new ≡ a .n * a .b
   pub holds : (j p : ℕ) → j < a .n → p < a .b → cell (a .b) new j p ≡ block a x v (suc j) p
 
-abbrev pub EncodePost : Params → List ℕ → List ℕ → List ℕ → ℕ → List ℕ → Type 0
-EncodePost a x v old answer new = Post (encodeGate a (length x) (length v) (length old)) answer (Encoded a x v new) (new ≡ old)
+abbrev pub EncodePost : Params → List ℕ → List ℕ → List ℕ → List ℕ → ℕ → List ℕ → List ℕ → Type 0
+EncodePost a x v old serials answer new serials′ =
+    Post (encodeGate a (length x) (length v) (length old) (length serials)) answer (Encoded a x v new × (serials′ ≡ replicate (a .n) 0))
+    (Unwritten old serials new serials′)
 
 -- ---- "Reading: record and a choice R of r traps. Out: the message of the one (message, slack) pair that gives R's blocks", those of R's q lowest nodes. "It
 -- is defined for whichever bytes R holds."
@@ -61,21 +68,30 @@ pub record Differences (a : Params) (d : List ℕ) (to : ℕ) (out : List ℕ) :
 abbrev pub DeltaPost : Params → List ℕ → ℕ → List ℕ → ℕ → List ℕ → Type 0
 DeltaPost a d to old answer out = Post (deltaGate a (length d) (length old) to) answer (Differences a d to out) (out ≡ old)
 
--- ---- "Change: adds those differences to W's blocks; every other byte stays. The record's bytes have no part in the difference."
+-- ---- "Change: adds those differences to W's blocks; every other byte stays. The record's bytes have no part in the difference." "A trap of W in that choice"
+-- (of the traps that the radio reaches) "adds the difference and takes the serial together, only if the serial is above its own" (document 02, 2026-03).
 
-pub record Updated (a : Params) (old d : List ℕ) (to : ℕ) (new : List ℕ) : Type 0 where
+-- the difference is added to the blocks of the nodes of 1..n that pass the test
+pub record Updated (a : Params) (old d : List ℕ) (to : ℕ) (taking : ℕ → Bool) (new : List ℕ) : Type 0 where
   pub slack : List ℕ
   pub vanishes : Vanishes a d to slack
   pub length-is : length new ≡ a .n * a .b
-  pub added : (j p : ℕ) → j < a .n → has to (suc j) ≡ true → p < a .b
+  pub added : (j p : ℕ) → j < a .n → taking (suc j) ≡ true → p < a .b
       → cell (a .b) new j p ≡ add (cell (a .b) old j p) (block a d slack (suc j) p)
-  pub kept : (j p : ℕ) → j < a .n → has to (suc j) ≡ false → p < a .b → cell (a .b) new j p ≡ cell (a .b) old j p
+  pub kept : (j p : ℕ) → j < a .n → taking (suc j) ≡ false → p < a .b → cell (a .b) new j p ≡ cell (a .b) old j p
 
-abbrev pub UpdatePost : Params → List ℕ → ℕ → List ℕ → ℕ → List ℕ → Type 0
-UpdatePost a d to old answer new = Post (updateGate a (length old) (length d) to) answer (Updated a old d to new) (new ≡ old)
+-- one send of a change: those that add the difference are those that take the serial
+abbrev pub Sent : Params → List ℕ → (to serial reached : ℕ) → List ℕ → List ℕ → List ℕ → List ℕ → Type 0
+Sent a d to serial reached old serials new serials′ =
+    Updated a old d to (takes to reached serials serial) new × Stamped (a .n) (takes to reached serials serial) serial serials serials′
+
+abbrev pub UpdatePost : Params → List ℕ → (to serial reached : ℕ) → List ℕ → List ℕ → ℕ → List ℕ → List ℕ → Type 0
+UpdatePost a d to serial reached old serials answer new serials′ =
+    Post (updateGate a (length old) (length serials) (length d) to serial) answer (Sent a d to serial reached old serials new serials′)
+    (Unwritten old serials new serials′)
 
 -- ---- "Rebuild: R and a lost choice L. L's blocks become those of R's pair", which its q lowest nodes give. "L may be empty, and then nothing is
--- written."
+-- written." "Rebuilt or newly written traps take the highest serial in R; copied traps .. keep theirs" (document 02, 2026-03), of all r nodes of R.
 
 pub record Repaired (a : Params) (old : List ℕ) (from lost : ℕ) (new : List ℕ) : Type 0 where
   pub message : List ℕ
@@ -85,9 +101,10 @@ pub record Repaired (a : Params) (old : List ℕ) (from lost : ℕ) (new : List 
   pub rebuilt : (j p : ℕ) → j < a .n → has lost (suc j) ≡ true → p < a .b → cell (a .b) new j p ≡ block a message slack (suc j) p
   pub kept : (j p : ℕ) → j < a .n → has lost (suc j) ≡ false → p < a .b → cell (a .b) new j p ≡ cell (a .b) old j p
 
-abbrev pub RepairPost : Params → ℕ → ℕ → List ℕ → ℕ → List ℕ → Type 0
-RepairPost a from lost old answer new =
-    Post (repairGate a (length old) from lost) answer (Repaired a old from lost new) (new ≡ old)
+abbrev pub RepairPost : Params → ℕ → ℕ → List ℕ → List ℕ → ℕ → List ℕ → List ℕ → Type 0
+RepairPost a from lost old serials answer new serials′ =
+    Post (repairGate a (length old) (length serials) from lost) answer
+    (Repaired a old from lost new × Stamped (a .n) (has lost) (highest (has from) serials (a .n)) serials serials′) (Unwritten old serials new serials′)
 
 -- ---- "Rearrangement: from k, r, w, n to k', r', w', n', same B, with R of r old traps, W' of w' of the new n', and a new message of k'·B bytes. The old
 -- record is only read; the new one has its own buffer."
@@ -110,9 +127,12 @@ pub record Reconfigured (a : Params) (t : Shape) (old : List ℕ) (from to : ℕ
   pub written : (j p : ℕ) → j < t .n → writes a to (suc j) ≡ true → p < a .b → cell (a .b) new j p ≡ block (reshaped a t) x slack (suc j) p
   pub copied : (j p : ℕ) → j < t .n → writes a to (suc j) ≡ false → p < a .b → cell (a .b) new j p ≡ cell (a .b) old j p
 
-abbrev pub ReconfigurePost : Params → Shape → List ℕ → ℕ → ℕ → List ℕ → List ℕ → ℕ → List ℕ → Type 0
-ReconfigurePost a t old from to x buffer answer new =
-    Post (reconfigureGate a t (length old) (length buffer) (length x) from to) answer (Reconfigured a t old from to x new) (new ≡ buffer)
+-- The buffers lent are the new record's and the new serials'; the old serials are only read too.
+abbrev pub ReconfigurePost : Params → Shape → List ℕ → List ℕ → ℕ → ℕ → List ℕ → List ℕ → List ℕ → ℕ → List ℕ → List ℕ → Type 0
+ReconfigurePost a t old serials from to x buffer numbers answer new serials′ =
+    Post (reconfigureGate a t (length old) (length serials) (length buffer) (length numbers) (length x) from to) answer
+    (Reconfigured a t old from to x new × Stamped (t .n) (writes a to) (highest (has from) serials (a .n)) serials serials′)
+    (Unwritten buffer numbers new serials′)
 
 -- ---- "Check: takes the record. Besides its gate number it gives a trap number: 0 if all n blocks come from the pair of traps" 1..q (document 02, 2026-01:
 -- "check uses traps 1..q"), "else the lowest trap whose block differs from that pair's."
