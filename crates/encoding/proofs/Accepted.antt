@@ -7,9 +7,10 @@ use Rattle.gates.specs.Valid.{EncodeAccepted}
 use Rattle.gates.proofs.Valid.{working-le}
 use Rattle.encoding.specs.Cores.{Encodable}
 
-pub encodable : (a : Params) (message slack codeword : ℕ) → EncodeAccepted a message slack codeword → Encodable a message slack codeword
+pub encodable : (a : Params) (message slack codeword serials : ℕ) → EncodeAccepted a message slack codeword serials
+    → Encodable a message slack codeword
 unfolding working
-encodable a message slack codeword ok =
+encodable a message slack codeword serials ok =
     record {
       b-high = ok .valid .b-high;
       message-length = ok .message-length;

@@ -1,5 +1,5 @@
-// Document 01's set-up: from message and slack to the blocks of all nodes. The call is its gate, and then a private core: message and slack are laid side by side,
-// so that one product by the powers of the nodes' points gives all blocks.
+// Document 01's set-up: from message and slack to the blocks of all nodes, with serials 0. The call is its gate, and then a private core: message and slack are
+// laid side by side, so that one product by the powers of the nodes' points gives all blocks.
 use block_numbers::in_order;
 use blocks::clear;
 use blocks::copy_block;
@@ -7,21 +7,29 @@ use gates::encode_gate;
 use kernels::add_product;
 use node_rows::encoding_rows;
 use params::Params;
+use serials::clear_serials;
 ghost use Prim.Native.Nat.{_+_, _*_, _≤_};
 ghost use lib.ListN.{length, take, drop};
 ghost use Rattle.params.specs.Params.{working};
 ghost use Rattle.code.specs.Calls.{EncodePost, Encoded};
 ghost use Rattle.encoding.specs.Cores.{Encodable, Raisable};
 
-// Writes the blocks of all nodes for a message and a slack, whatever the codeword's buffer held. A refusal leaves it as it was.
-pub fn encode(a: Params, message: &[u8], slack: &[u8], codeword: &mut [u8]) -> u32
-    ensures { λ r. ⌜ EncodePost a (now (message .entry)) (now (slack .entry)) (now (codeword .entry)) r (now (codeword .exit)) ⌝ }
+// Writes the blocks of all nodes for a message and a slack, and serials 0, whatever the buffers held. A refusal leaves both as they were.
+pub fn encode(
+    a: Params,
+    message: &[u8],
+    slack: &[u8],
+    codeword: &mut [u8],
+    serials: &mut [u32],
+) -> u32
+    ensures { λ r. ⌜ EncodePost a (now (message .entry)) (now (slack .entry)) (now (codeword .entry)) (now (serials .entry)) r (now (codeword .exit)) (now (serials .exit)) ⌝ }
 {
-    let refusal = encode_gate(a, message.len(), slack.len(), codeword.len());
+    let refusal = encode_gate(a, message.len(), slack.len(), codeword.len(), serials.len());
     if refusal != 0 {
         return refusal;
     }
     encode_blocks(a, message, slack, codeword);
+    clear_serials(serials);
     0
 }
 

@@ -18,7 +18,7 @@ use views::view_status;
 ghost use Rattle.code.specs.Calls.{EncodePost, DecodePost, DeltaPost, UpdatePost, RepairPost, ReconfigurePost};
 ghost use Rattle.jirvents.specs.Exports.{params, shape, CheckGave, ViewGave, InvertGave};
 
-// Writes the codeword of a message and a slack.
+// Writes the codeword of a message and a slack, and serials 0.
 #[no_mangle]
 pub extern "C" fn jirvents_encode(
     k: usize,
@@ -29,10 +29,11 @@ pub extern "C" fn jirvents_encode(
     message: &[u8],
     slack: &[u8],
     codeword: &mut [u8],
+    serials: &mut [u32],
 ) -> u32
-    ensures { λ z. ⌜ EncodePost (params k r w n b) (now (message .entry)) (now (slack .entry)) (now (codeword .entry)) z (now (codeword .exit)) ⌝ }
+    ensures { λ z. ⌜ EncodePost (params k r w n b) (now (message .entry)) (now (slack .entry)) (now (codeword .entry)) (now (serials .entry)) z (now (codeword .exit)) (now (serials .exit)) ⌝ }
 {
-    encode(Params { k, r, w, n, b }, message, slack, codeword)
+    encode(Params { k, r, w, n, b }, message, slack, codeword, serials)
 }
 
 // Reads the message from the blocks of from's q lowest nodes, q the working number.
@@ -69,7 +70,7 @@ pub extern "C" fn jirvents_delta(
     delta(Params { k, r, w, n, b }, change, NodeSet(to), out)
 }
 
-// Adds a change of the message through the nodes in to.
+// Adds a change of the message through the nodes in to: at those that are reached and have a serial below the given one, which they take.
 #[no_mangle]
 pub extern "C" fn jirvents_update(
     k: usize,
@@ -78,15 +79,26 @@ pub extern "C" fn jirvents_update(
     n: usize,
     b: usize,
     codeword: &mut [u8],
+    serials: &mut [u32],
     change: &[u8],
     to: u32,
+    serial: u32,
+    reached: u32,
 ) -> u32
-    ensures { λ z. ⌜ UpdatePost (params k r w n b) (now (change .entry)) to (now (codeword .entry)) z (now (codeword .exit)) ⌝ }
+    ensures { λ z. ⌜ UpdatePost (params k r w n b) (now (change .entry)) to serial reached (now (codeword .entry)) (now (serials .entry)) z (now (codeword .exit)) (now (serials .exit)) ⌝ }
 {
-    update(Params { k, r, w, n, b }, codeword, change, NodeSet(to))
+    update(
+        Params { k, r, w, n, b },
+        codeword,
+        serials,
+        change,
+        NodeSet(to),
+        serial,
+        NodeSet(reached),
+    )
 }
 
-// Writes the blocks of lost anew from those of from's q lowest nodes.
+// Writes the blocks of lost anew from those of from's q lowest nodes; their serials become the highest of from's.
 #[no_mangle]
 pub extern "C" fn jirvents_repair(
     k: usize,
@@ -95,20 +107,22 @@ pub extern "C" fn jirvents_repair(
     n: usize,
     b: usize,
     codeword: &mut [u8],
+    serials: &mut [u32],
     from: u32,
     lost: u32,
 ) -> u32
-    ensures { λ z. ⌜ RepairPost (params k r w n b) from lost (now (codeword .entry)) z (now (codeword .exit)) ⌝ }
+    ensures { λ z. ⌜ RepairPost (params k r w n b) from lost (now (codeword .entry)) (now (serials .entry)) z (now (codeword .exit)) (now (serials .exit)) ⌝ }
 {
     repair(
         Params { k, r, w, n, b },
         codeword,
+        serials,
         NodeSet(from),
         NodeSet(lost),
     )
 }
 
-// Writes the codeword of new parameters with a new message, through the blocks of from's q lowest nodes and with those of to made new.
+// Writes the codeword of new parameters with a new message, through the blocks of from's q lowest nodes and with those of to made new, and its serials.
 #[no_mangle]
 pub extern "C" fn jirvents_reconfigure(
     k: usize,
@@ -121,12 +135,14 @@ pub extern "C" fn jirvents_reconfigure(
     w2: usize,
     n2: usize,
     codeword: &[u8],
+    serials: &[u32],
     from: u32,
     to: u32,
     message: &[u8],
     out: &mut [u8],
+    numbers: &mut [u32],
 ) -> u32
-    ensures { λ z. ⌜ ReconfigurePost (params k r w n b) (shape k2 r2 w2 n2) (now (codeword .entry)) from to (now (message .entry)) (now (out .entry)) z (now (out .exit)) ⌝ }
+    ensures { λ z. ⌜ ReconfigurePost (params k r w n b) (shape k2 r2 w2 n2) (now (codeword .entry)) (now (serials .entry)) from to (now (message .entry)) (now (out .entry)) (now (numbers .entry)) z (now (out .exit)) (now (numbers .exit)) ⌝ }
 {
     let t = Shape {
         k: k2,
@@ -138,10 +154,12 @@ pub extern "C" fn jirvents_reconfigure(
         Params { k, r, w, n, b },
         t,
         codeword,
+        serials,
         NodeSet(from),
         NodeSet(to),
         message,
         out,
+        numbers,
     )
 }
 

@@ -1,15 +1,16 @@
 -- A rebuild: what its core asks of an accepted call, that recomputed blocks put in place are what it does, and what this makes of the call. Assumes nothing.
-use mathlib.Core.Path.{_≡_, _∙_}
+use mathlib.Core.Path.{_≡_, ap, _∙_, subst₂}
 use mathlib.Core.List.{List}
 use Prim.Native.Nat.{ℕ, suc, _*_, _^_, _<_}
 use native.Mathlib.Omega.{arith}
 use lib.ListN.{length}
 use Rattle.base.proofs.Parts.{row-ends}
 use Rattle.field.specs.Field.{Bytes}
-use Rattle.params.specs.Nodes.{size}
+use Rattle.params.specs.Nodes.{has, size}
 use Rattle.params.specs.declared.Params.{Params}
 use Rattle.params.proofs.Sets.{within-has}
 use Rattle.gates.specs.Valid.{RepairAccepted}
+use Rattle.serials.specs.Serials.{highest, Stamped}
 use Rattle.code.specs.Code.{used}
 use Rattle.code.specs.Calls.{Repaired}
 use Rattle.code.proofs.Pairs.{pair-exists, from-reads}
@@ -43,8 +44,8 @@ module _ (a : Params) (from lost : ℕ) (old : List ℕ) (ok : Rebuildable a fro
 -- ---- the call
 
 module _ (a : Params) (from chosen lost : ℕ) (u : Uses a from chosen) where
-  pub rebuildable : (codeword : ℕ) → lost < 2 ^ 32 → RepairAccepted a codeword from lost → Rebuildable a chosen lost codeword
-  rebuildable codeword word ok =
+  pub rebuildable : (codeword serials : ℕ) → lost < 2 ^ 32 → RepairAccepted a codeword serials from lost → Rebuildable a chosen lost codeword
+  rebuildable codeword serials word ok =
       record {
         full = u .full;
         from-inside = u .inside;
@@ -54,8 +55,9 @@ module _ (a : Params) (from chosen lost : ℕ) (u : Uses a from chosen) where
         b-high = ok .valid .b-high;
       }
 
-  pub repaired : (old new : List ℕ) → RepairAccepted a (length old) from lost → Bytes old → Rebuilt a chosen lost old new → Repaired a old from lost new
-  repaired old new ok bytes done =
+  pub repaired : (serials : ℕ) (old new : List ℕ) → RepairAccepted a (length old) serials from lost → Bytes old → Rebuilt a chosen lost old new
+      → Repaired a old from lost new
+  repaired serials old new ok bytes done =
       let g = pair-exists a (ok .valid) (used a from) (from-reads a from (ok .valid) (ok .from-within) (ok .from-size)) old bytes in
       record {
         message = g .0;
@@ -65,3 +67,10 @@ module _ (a : Params) (from chosen lost : ℕ) (u : Uses a from chosen) where
         rebuilt = λ j p hj e hp. done .rebuilt (g .0) (g .1) (gives-chosen u (g .2)) j p e hp;
         kept = λ j p hj e hp. done .kept j p e hp;
       }
+
+-- all n nodes have a serial
+pub restamped : (a : Params) (codeword from lost newest : ℕ) (serials new : List ℕ) → RepairAccepted a codeword (length serials) from lost
+    → newest ≡ highest (has from) serials (length serials) → Stamped (length serials) (has lost) newest serials new
+    → Stamped (a .n) (has lost) (highest (has from) serials (a .n)) serials new
+restamped a codeword from lost newest serials new ok e =
+    subst₂ (λ (m x : ℕ). Stamped m (has lost) x serials new) (ok .serials-length) (e ∙ ap (highest (has from) serials) (ok .serials-length))

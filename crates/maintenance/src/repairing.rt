@@ -4,22 +4,32 @@ use gates::repair_gate;
 use params::NodeSet;
 use params::Params;
 use placing::put_blocks;
+use serials::highest;
+use serials::stamp;
 ghost use Prim.Native.Nat.{_*_, _≤_};
 ghost use lib.ListN.{length};
 ghost use Rattle.params.specs.Nodes.{size};
 ghost use Rattle.code.specs.Calls.{RepairPost};
 ghost use Rattle.maintenance.specs.Cores.{Rebuildable, Rebuilt};
 
-// The blocks of lost become those of the pair of the blocks of from's q lowest nodes, q the working number.
-pub fn repair(a: Params, codeword: &mut [u8], from: NodeSet, lost: NodeSet) -> u32
-    ensures { λ r. ⌜ RepairPost a (from .0) (lost .0) (now (codeword .entry)) r (now (codeword .exit)) ⌝ }
+// The blocks of lost become those of the pair of the blocks of from's q lowest nodes, q the working number, and their serials the highest of all nodes of from.
+pub fn repair(
+    a: Params,
+    codeword: &mut [u8],
+    serials: &mut [u32],
+    from: NodeSet,
+    lost: NodeSet,
+) -> u32
+    ensures { λ r. ⌜ RepairPost a (from .0) (lost .0) (now (codeword .entry)) (now (serials .entry)) r (now (codeword .exit)) (now (serials .exit)) ⌝ }
 {
-    let refusal = repair_gate(a, codeword.len(), from, lost);
+    let refusal = repair_gate(a, codeword.len(), serials.len(), from, lost);
     if refusal != 0 {
         return refusal;
     }
     let chosen = from.lowest(a.working());
     repair_blocks(a, codeword, chosen, lost);
+    let newest = highest(serials, from);
+    stamp(serials, lost, newest);
     0
 }
 

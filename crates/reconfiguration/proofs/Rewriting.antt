@@ -1,6 +1,6 @@
 -- A rearrangement: what its core asks of an accepted call, that the two completions over a copy are what it does, and what this makes of the call: R's pair and
 -- the new slack are the ones that the completion theorem gives. Assumes nothing.
-use mathlib.Core.Path.{_≡_, refl, sym, ap, _∙_}
+use mathlib.Core.Path.{_≡_, refl, sym, ap, _∙_, subst₂}
 use mathlib.Core.Logic.{⊎-elim}
 use mathlib.Core.Bool.{Bool, true, false, not, _&&_, _||_, true≢false}
 use mathlib.Core.List.{List}
@@ -23,8 +23,10 @@ use Rattle.params.specs.declared.Shape.{Shape}
 use Rattle.params.proofs.Sets.{range-yes, range-no}
 use Rattle.params.proofs.Outside.{Outside, outside-has, outside-le, outside-node, outside-size}
 use Rattle.gates.specs.Valid.{ReconfigureAccepted}
+use Rattle.serials.specs.Serials.{highest, Stamped}
+use Rattle.serials.proofs.Laws.{stamped-ext}
 use Rattle.code.specs.Code.{point, block, used}
-use Rattle.code.specs.Calls.{Reconfigured}
+use Rattle.code.specs.Calls.{writes, Reconfigured}
 use Rattle.code.proofs.Additivity.{block-byte}
 use Rattle.code.proofs.Pairs.{slack-exists, written-leaves, pair-exists, from-reads}
 use Rattle.code.proofs.Used.{Uses, gives-chosen}
@@ -121,8 +123,9 @@ module _ (a : Params) (t : Shape) (from to rest kept made : ℕ) (codeword messa
 -- ---- the call
 
 module _ (a : Params) (t : Shape) (from chosen to : ℕ) (u : Uses a from chosen) where
-  pub reconfigurable : (old new message : ℕ) → ReconfigureAccepted a t old new message from to → Reconfigurable a t old new message chosen to
-  reconfigurable old new message ok =
+  pub reconfigurable : (old serials new numbers message : ℕ) → ReconfigureAccepted a t old serials new numbers message from to
+      → Reconfigurable a t old new message chosen to
+  reconfigurable old serials new numbers message ok =
       record {
         full = u .full;
         from-inside = u .inside;
@@ -138,9 +141,10 @@ module _ (a : Params) (t : Shape) (from chosen to : ℕ) (u : Uses a from chosen
         b-high = ok .valid .b-high;
       }
 
-  pub reconfigured : (codeword message old new : List ℕ) → ReconfigureAccepted a t (length codeword) (length old) (length message) from to
-      → Bytes codeword → Bytes message → Rewritten a t codeword chosen to message new → Reconfigured a t codeword from to message new
-  reconfigured codeword message old new ok bytes bytes′ done =
+  pub reconfigured : (serials numbers : ℕ) (codeword message old new : List ℕ)
+      → ReconfigureAccepted a t (length codeword) serials (length old) numbers (length message) from to → Bytes codeword → Bytes message
+      → Rewritten a t codeword chosen to message new → Reconfigured a t codeword from to message new
+  reconfigured serials numbers codeword message old new ok bytes bytes′ done =
       let pair = pair-exists a (ok .valid) (used a from) (from-reads a from (ok .valid) (ok .from-within) (ok .from-size)) codeword bytes in
       let found =
       slack-exists (reshaped a t) (ok .valid-new) (has to) (written-leaves (reshaped a t) to (ok .valid-new) (ok .to-within) (ok .to-size)) message
@@ -156,3 +160,12 @@ module _ (a : Params) (t : Shape) (from chosen to : ℕ) (u : Uses a from chosen
         written = done .written (pair .0) (pair .1) (found .0) (gives-chosen u (pair .2)) (found .1);
         copied = done .copied;
       }
+
+-- the nodes that are written take the serial, among all n' of them
+pub restamped : (a : Params) (t : Shape) (old new message from to kept made newest : ℕ) (serials numbers numbers′ : List ℕ)
+    → ReconfigureAccepted a t old (length serials) new (length numbers) message from to → Outside (a .n) to kept → Outside (t .n) kept made
+    → newest ≡ highest (has from) serials (length serials) → Stamped (length numbers) (has made) newest serials numbers′
+    → Stamped (t .n) (writes a to) (highest (has from) serials (a .n)) serials numbers′
+restamped a t old new message from to kept made newest serials numbers numbers′ ok keeps makes e s =
+    stamped-ext (written-has (a .n) (t .n) to kept made (ok .valid .shape .n-high) (ok .valid-new .shape .n-high) keeps makes)
+    (subst₂ (λ (m x : ℕ). Stamped m (has made) x serials numbers′) (ok .new-serials-length) (e ∙ ap (highest (has from) serials) (ok .serials-length)) s)

@@ -9,30 +9,47 @@ use gates::reconfigure_gate;
 use params::NodeSet;
 use params::Params;
 use params::Shape;
+use serials::hand_on;
+use serials::highest;
 ghost use Prim.Native.Nat.{_*_, _≤_};
 ghost use lib.ListN.{length};
 ghost use Rattle.params.specs.Params.{slackParts, reshaped};
 ghost use Rattle.code.specs.Calls.{ReconfigurePost};
 ghost use Rattle.reconfiguration.specs.Core.{Reconfigurable, Rewritten};
 
-// Writes the record of the new shape to out. The old record is only read, its pair from the blocks of from's q lowest nodes, q the working number.
+// Writes the record of the new shape to out, and its serials to numbers. The old record is only read, its pair from the blocks of from's q lowest nodes, q the
+// working number. The nodes that are written take the highest serial of all nodes of from.
 pub fn reconfigure(
     a: Params,
     shape: Shape,
     codeword: &[u8],
+    serials: &[u32],
     from: NodeSet,
     to: NodeSet,
     message: &[u8],
     out: &mut [u8],
+    numbers: &mut [u32],
 ) -> u32
-    ensures { λ r. ⌜ ReconfigurePost a shape (now (codeword .entry)) (from .0) (to .0) (now (message .entry)) (now (out .entry)) r (now (out .exit)) ⌝ }
+    ensures { λ r. ⌜ ReconfigurePost a shape (now (codeword .entry)) (now (serials .entry)) (from .0) (to .0) (now (message .entry)) (now (out .entry)) (now (numbers .entry)) r (now (out .exit)) (now (numbers .exit)) ⌝ }
 {
-    let refusal = reconfigure_gate(a, shape, codeword.len(), out.len(), message.len(), from, to);
+    let refusal = reconfigure_gate(
+        a,
+        shape,
+        codeword.len(),
+        serials.len(),
+        out.len(),
+        numbers.len(),
+        message.len(),
+        from,
+        to,
+    );
     if refusal != 0 {
         return refusal;
     }
     let chosen = from.lowest(a.working());
     reconfigure_blocks(a, shape, codeword, chosen, to, message, out);
+    let made = to.outside(a.n).outside(shape.n);
+    hand_on(serials, made, highest(serials, from), numbers);
     0
 }
 

@@ -12,7 +12,8 @@ use Rattle.code.specs.Code.{block}
 use Rattle.code.specs.Calls.{Vanishes}
 use Rattle.products.specs.Blocks.{arriving}
 
--- a change, a set W of w nodes outside which it is to vanish, and a block for each of the takers, the nodes whose rows are wanted (both calls give W)
+-- a change, a set W of w nodes outside which it is to vanish, and a block for each of the takers, the nodes whose rows are wanted (a difference
+-- gives W, a send those of W that take it)
 pub record Spreadable (a : Params) (change to takers : ℕ) (targets : List ℕ) (out : ℕ) : Type 0 where
   pub n-high : a .n ≤ 32
   pub k-le-n : a .k ≤ a .n

@@ -9,6 +9,8 @@ use kernels::add_product;
 use node_rows::extending_rows;
 use params::NodeSet;
 use params::Params;
+use serials::stamp;
+use serials::takers;
 ghost use Prim.Native.Nat.{_*_, _≤_};
 ghost use lib.ListN.{length};
 ghost use Rattle.code.specs.Calls.{DeltaPost, UpdatePost};
@@ -29,18 +31,29 @@ pub fn delta(a: Params, change: &[u8], to: NodeSet, out: &mut [u8]) -> u32
     0
 }
 
-// The same differences, added to the blocks of the nodes of `to`, each at its own place. A refusal leaves the codeword as it was.
-pub fn update(a: Params, codeword: &mut [u8], change: &[u8], to: NodeSet) -> u32
-    ensures { λ r. ⌜ UpdatePost a (now (change .entry)) (to .0) (now (codeword .entry)) r (now (codeword .exit)) ⌝ }
+// One send of a change: the nodes of `to` that are reached and have a lower serial add the same differences to their blocks and take the serial. A refusal leaves
+// codeword and serials as they were.
+pub fn update(
+    a: Params,
+    codeword: &mut [u8],
+    serials: &mut [u32],
+    change: &[u8],
+    to: NodeSet,
+    serial: u32,
+    reached: NodeSet,
+) -> u32
+    ensures { λ r. ⌜ UpdatePost a (now (change .entry)) (to .0) serial (reached .0) (now (codeword .entry)) (now (serials .entry)) r (now (codeword .exit)) (now (serials .exit)) ⌝ }
 {
-    let refusal = update_gate(a, codeword.len(), change.len(), to);
+    let refusal = update_gate(a, codeword.len(), serials.len(), change.len(), to, serial);
     if refusal != 0 {
         return refusal;
     }
-    let w = a.w;
+    let taking = takers(to, reached, serials, serial);
+    let count = taking.size();
     let mut places = [0u8; 32];
-    places_of(to, &mut places);
-    spread(a, change, to, to, &places[..w], codeword);
+    places_of(taking, &mut places);
+    spread(a, change, to, taking, &places[..count], codeword);
+    stamp(serials, taking, serial);
     0
 }
 

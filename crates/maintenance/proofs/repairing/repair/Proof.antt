@@ -1,4 +1,4 @@
--- Refused, nothing is written; else the blocks are rebuilt. Assumes nothing.
+-- Refused, nothing is written; else the blocks are rebuilt, and the serials follow. Assumes nothing.
 use mathlib.Core.Path.{refl, sym, _∙_}
 use Prim.Native.Nat.{_^_, _<_}
 use native.Mathlib.Omega.{arith}
@@ -9,7 +9,7 @@ use Rattle.gates.specs.Valid.{RepairAccepted}
 use Rattle.gates.proofs.Valid.{repair-accepted}
 use Rattle.code.proofs.Posts.{served, refused}
 use Rattle.code.proofs.Used.{Uses, uses}
-use Rattle.maintenance.proofs.Rebuilding.{rebuildable, repaired}
+use Rattle.maintenance.proofs.Rebuilding.{rebuildable, repaired, restamped}
 use Rattle.maintenance.proofs.repairing.repair.Statement.{statement}
 use Rattle.maintenance.proofs.repairing.repair.Tie as tie
 
@@ -17,13 +17,14 @@ repair-gate-requires : tie.Need-repair-gate-requires
 repair-gate-requires c κs = search needs
 
 returns : tie.Need-returns
-returns c = refused _ _ (c .before .repair-gate .ensures) (c .if1 .taken) refl
+returns c = refused _ _ (c .before .repair-gate .ensures) (c .if1 .taken) (refl, refl)
 
 abbrev start : tie.Else1 → tie.Start
-start c = c .before .before .before
+start c = c .before .before .before .before
 
-accepted : (c : tie.Else1) → RepairAccepted (start c .args .a) (length (now (start c .args .codeword))) (start c .args .from .0) (start c .args .lost .0)
-accepted c = repair-accepted _ _ _ _ .0 (sym (c .before .repair-gate .ensures) ∙ c .if1 .left)
+accepted : (c : tie.Else1)
+    → let s = start c .args in RepairAccepted (s .a) (length (now (s .codeword))) (length (now (s .serials))) (s .from .0) (s .lost .0)
+accepted c = repair-accepted _ _ _ _ _ .0 (sym (c .before .repair-gate .ensures) ∙ c .if1 .left)
 
 working-requires : tie.Need-working-requires
 working-requires c κs = search needs
@@ -47,21 +48,45 @@ repair-blocks-requires : tie.Need-repair-blocks-requires
 repair-blocks-requires c κs =
     let l = c .before in
     let e = l .before .before in
-    rebuildable _ _ _ _ (chosen l) _ (word-lost (start e)) (accepted e)
+    rebuildable _ _ _ _ (chosen l) _ _ (word-lost (start e)) (accepted e)
+
+highest-requires : tie.Need-highest-requires
+highest-requires c κs = search needs
+
+stamp-requires : tie.Need-stamp-requires
+stamp-requires c κs = search needs
 
 same-length : tie.Need-same-length
 same-length c = search needs
 
+same-length-2 : tie.Need-same-length-2
+same-length-2 c = search needs
+
 returns-2 : tie.Need-returns-2
 returns-2 c =
-    let l = c .before .before .before .before in
+    let d = c .before .before in
+    let h = d .before .before in
+    let b = h .before .before .before .before in
+    let l = b .before .before in
     let e = l .before .before in
-    let s = start e in
-    let bytes = e .before .before .slice-known .given in
-    served _ (sym (e .before .repair-gate .ensures) ∙ e .if1 .left)
-    (repaired (s .args .a) (s .args .from .0) _ (s .args .lost .0) (chosen l) (now (s .args .codeword)) _ (accepted e) (λ i. omega (arith, bytes i))
-    (c .before .before .repair-blocks .ensures))
+    let s = start e .args in
+    let bytes = e .before .before .before .slice-known .given in
+    served _ (sym (e .before .repair-gate .ensures) ∙ e .if1 .left) (
+      repaired (s .a) (s .from .0) _ (s .lost .0) (chosen l) _ (now (s .codeword)) _ (accepted e) (λ i. omega (arith, bytes i)) (b .repair-blocks .ensures),
+      restamped (s .a) _ (s .from .0) (s .lost .0) _ (now (s .serials)) _ (accepted e) (h .highest .ensures) (d .stamp .ensures),
+    )
 
 pub repair-spec : {M : Type 1} → statement M
 repair-spec =
-    tie.close (tie.spec repair-gate-requires returns working-requires lowest-requires repair-blocks-requires same-length returns-2)
+    tie.close
+    (tie.spec
+    repair-gate-requires
+    returns
+    working-requires
+    lowest-requires
+    repair-blocks-requires
+    highest-requires
+    stamp-requires
+    same-length
+    same-length-2
+    returns-2)
