@@ -1,24 +1,28 @@
--- A served call on given bytes, by computing: for each call the tests that its post-condition comes down to, once the pair or the slack is given. Assumes
--- nothing.
-use mathlib.Core.Path.{_≡_, refl, sym, ap, _∙_, subst}
+-- A served call on given bytes and serials, by computing: for each call the tests that its post-condition comes down to, once the pair or the slack is given.
+-- Assumes nothing.
+use mathlib.Core.Path.{_≡_, refl, sym, ap, ap₂, _∙_, subst}
 use mathlib.Core.Logic.{⊎-elim}
-use mathlib.Core.Bool.{Bool, true, false, not}
+use mathlib.Core.Bool.{Bool, true, false, not, _||_, cond, true≢false, Bool·not-not}
 use mathlib.Core.List.{List, [], _∷_}
 use Prim.Native.Nat.{ℕ, suc, _*_, _^_, _<_}
 use native.Mathlib.Omega.{arith}
 use borrow.Author.Tests.{eq-eqb}
 use lib.Dec.{T, eqb, ltb, eqb→eq, ltb→lt}
-use lib.ListN.{length, getD, List·getD-eq-default}
+use lib.ListN.{length, getD, replicate, length-replicate, List·getD-eq-default}
+use lib.Seq.{ext-getD}
 use Rattle.base.specs.Seq.{cell}
 use Rattle.base.proofs.Cases.{lt-or}
+use Rattle.base.proofs.Seq.{zeros-at}
 use Rattle.base.proofs.Test.{both, both-left, both-right, allBelow, below}
-use Rattle.field.specs.Field.{IsByte, Bytes, add}
+use Rattle.field.specs.Field.{Bytes, add}
 use Rattle.params.specs.Nodes.{has, count}
 use Rattle.params.specs.Params.{slackParts, working, reshaped}
 use Rattle.gates.specs.Gates.{encodeGate, decodeGate, deltaGate, updateGate, repairGate, reconfigureGate, checkGate}
 use Rattle.params.specs.declared.Params.{Params}
 use Rattle.params.specs.declared.Shape.{Shape}
 use Rattle.params.proofs.Sets.{has-le}
+use Rattle.serials.specs.Serials.{Words, takes, highest, Stamped}
+use Rattle.serials.proofs.Laws.{stamped-by}
 use Rattle.code.specs.Code.{Parts, block, Gives, used, upTo}
 use Rattle.code.specs.Calls.{Post, EncodePost, DecodePost, Vanishes, DeltaPost, UpdatePost, RepairPost, writes, ReconfigurePost, Same, CheckPost}
 use Rattle.code.specs.declared.Verdict.the-variants.{Agrees, Differs}
@@ -57,13 +61,26 @@ module _ (n b : ℕ) (S : ℕ → Bool) (f g : ℕ → ℕ → ℕ) where
 other : (n b : ℕ) (S : ℕ → Bool) (f g : ℕ → ℕ → ℕ) → T (same? n b (λ i. not (S i)) f g) → (j p : ℕ) → j < n → S (suc j) ≡ false → p < b → f j p ≡ g j p
 other n b S f g t j p hj s hp = same n b (λ i. not (S i)) f g t j p hj (ap not s) hp
 
+-- the numbers are all below m
+abbrev under? : ℕ → List ℕ → Bool
+under? m xs = allBelow (length xs) (λ i. ltb (getD xs i 0) m)
+
+under : (m : ℕ) (xs : List ℕ) → 0 < m → T (under? m xs) → (i : ℕ) → getD xs i 0 < m
+under m xs pos t i =
+    ⊎-elim (λ hi. ltb→lt _ _ (below (length xs) (λ i. ltb (getD xs i 0) m) t i hi))
+    (λ past. subst (λ (x : ℕ). x < m) (sym (List·getD-eq-default xs 0 past)) pos) (lt-or i (length xs))
+
 abbrev pub bytes? : List ℕ → Bool
-bytes? xs = allBelow (length xs) (λ i. ltb (getD xs i 0) 256)
+bytes? = under? 256
 
 pub bytes : (xs : List ℕ) → T (bytes? xs) → Bytes xs
-bytes xs t i =
-    ⊎-elim (λ hi. ltb→lt _ _ (below (length xs) (λ i. ltb (getD xs i 0) 256) t i hi))
-    (λ past. subst IsByte (sym (List·getD-eq-default xs 0 past)) (omega arith)) (lt-or i (length xs))
+bytes xs = under 256 xs (omega arith)
+
+abbrev pub words? : List ℕ → Bool
+words? = under? (2 ^ 32)
+
+pub words : (xs : List ℕ) → T (words? xs) → Words xs
+words xs = under (2 ^ 32) xs (omega arith)
 
 -- ---- pairs
 
@@ -98,26 +115,50 @@ vanishes a d to v h =
       zero = other (a .n) (a .b) (has to) (λ j. block a d v (suc j)) (λ j p. 0) (t .1 .0);
     }
 
+-- ---- serials
+
+abbrev stamped? : ℕ → (ℕ → Bool) → ℕ → List ℕ → List ℕ → List Bool
+stamped? n f serial old new = eqb (length new) n ∷ allBelow n (λ j. eqb (getD new j 0) (cond (f (suc j)) serial (getD old j 0))) ∷ []
+
+stamped : (n : ℕ) (f : ℕ → Bool) (serial : ℕ) (old new : List ℕ) → T (conj (stamped? n f serial old new)) → Stamped n f serial old new
+stamped n f serial old new h =
+    let t = each (stamped? n f serial old new) h in
+    stamped-by (eqb→eq _ _ (t .0))
+    (λ j hj. eqb→eq _ _ (below n (λ j. eqb (getD new j 0) (cond (f (suc j)) serial (getD old j 0))) (t .1 .0) j hj))
+
+-- n zeros: all take 0
+abbrev zeros? : ℕ → List ℕ → List Bool
+zeros? n serials = stamped? n (λ i. true) 0 [] serials
+
+zeros : (n : ℕ) (serials : List ℕ) → T (conj (zeros? n serials)) → serials ≡ replicate n 0
+zeros n serials h =
+    let s = stamped n (λ i. true) 0 [] serials h in
+    ext-getD 0 serials (replicate n 0) (s .length-is ∙ sym (length-replicate {A = ℕ} n 0))
+    (λ j hj. s .taken j (omega (arith, s .length-is)) refl ∙ sym (zeros-at n j))
+
 -- ---- the calls
 
--- A buffer that a call fills may hold whichever bytes: only its length counts.
-accepted : (gate : ℕ → ℕ) (old new : List ℕ) {A B : Type 0} → length old ≡ length new → T (eqb 0 (gate (length new))) → A → Post (gate (length old)) 0 A B
-accepted gate old new e z x = record { number = eqb→eq _ _ z ∙ ap gate (sym e); served = λ _. x; refused = λ ne. absurd (ne refl) }
+-- A buffer that a call fills may hold whichever bytes or numbers: only its length counts. So the gate is that of the filled buffers.
+accepted : {gate filled : ℕ} {A B : Type 0} → filled ≡ gate → T (eqb 0 filled) → A → Post gate 0 A B
+accepted e z x = record { number = eqb→eq _ _ z ∙ e; served = λ _. x; refused = λ ne. absurd (ne refl) }
 
-module _ (a : Params) (x v new : List ℕ) where
+module _ (a : Params) (x v new serials : List ℕ) where
   abbrev pub encode? : List Bool
   encode? =
-      eqb 0 (encodeGate a (length x) (length v) (length new)) ∷ eqb (length new) (a .n * a .b) ∷
-      same? (a .n) (a .b) (λ i. true) (cell (a .b) new) (λ j. block a x v (suc j)) ∷ []
+      eqb 0 (encodeGate a (length x) (length v) (length new) (length serials)) ∷ eqb (length new) (a .n * a .b) ∷
+      same? (a .n) (a .b) (λ i. true) (cell (a .b) new) (λ j. block a x v (suc j)) ∷ conj (zeros? (a .n) serials) ∷ []
 
-  pub encode-by : T (conj encode?) → (old : List ℕ) → length old ≡ length new → EncodePost a x v old 0 new
-  encode-by h old e =
+  pub encode-by : T (conj encode?) → (old numbers : List ℕ) → length old ≡ length new → length numbers ≡ length serials
+      → EncodePost a x v old numbers 0 new serials
+  encode-by h old numbers e f =
       let t = each encode? h in
-      accepted (encodeGate a (length x) (length v)) old new e (t .0)
-      (record {
-        length-is = eqb→eq _ _ (t .1 .0);
-        holds = λ j p hj. same (a .n) (a .b) (λ i. true) (cell (a .b) new) (λ j. block a x v (suc j)) (t .1 .1 .0) j p hj refl;
-      })
+      accepted (ap₂ (encodeGate a (length x) (length v)) (sym e) (sym f)) (t .0) (
+        record {
+          length-is = eqb→eq _ _ (t .1 .0);
+          holds = λ j p hj. same (a .n) (a .b) (λ i. true) (cell (a .b) new) (λ j. block a x v (suc j)) (t .1 .1 .0) j p hj refl;
+        },
+        zeros (a .n) serials (t .1 .1 .1 .0),
+      )
 
 module _ (a : Params) (codeword : List ℕ) (from : ℕ) (out slack : List ℕ) where
   abbrev pub decode? : List Bool
@@ -126,7 +167,7 @@ module _ (a : Params) (codeword : List ℕ) (from : ℕ) (out slack : List ℕ) 
   pub decode-by : T (conj decode?) → (old : List ℕ) → length old ≡ length out → DecodePost a codeword from old 0 out
   decode-by h old e =
       let t = each decode? h in
-      accepted (λ n. decodeGate a (length codeword) n from) old out e (t .0)
+      accepted (ap (λ (n : ℕ). decodeGate a (length codeword) n from) (sym e)) (t .0)
       (record { slack = slack; gives = gives a out slack (used a from) codeword (t .1 .0) })
 
 module _ (a : Params) (d : List ℕ) (to : ℕ) (out slack : List ℕ) where
@@ -138,7 +179,7 @@ module _ (a : Params) (d : List ℕ) (to : ℕ) (out slack : List ℕ) where
   pub delta-by : T (conj delta?) → (old : List ℕ) → length old ≡ length out → DeltaPost a d to old 0 out
   delta-by h old e =
       let t = each delta? h in
-      accepted (λ n. deltaGate a (length d) n to) old out e (t .0)
+      accepted (ap (λ (n : ℕ). deltaGate a (length d) n to) (sym e)) (t .0)
       (record {
         slack = slack;
         vanishes = vanishes a d to slack (t .1 .0);
@@ -146,70 +187,82 @@ module _ (a : Params) (d : List ℕ) (to : ℕ) (out slack : List ℕ) where
         holds = same (a .n) (a .b) (has to) (λ j. cell (a .b) out (count (has to) j)) (λ j. block a d slack (suc j)) (t .1 .1 .1 .0);
       })
 
-module _ (a : Params) (d : List ℕ) (to : ℕ) (old new slack : List ℕ) where
+module _ (a : Params) (d : List ℕ) (to serial reached : ℕ) (old serials new serials′ slack : List ℕ) where
+  abbrev taking : ℕ → Bool
+  taking = takes to reached serials serial
+
   abbrev pub update? : List Bool
   update? =
-      eqb 0 (updateGate a (length old) (length d) to) ∷ conj (vanishes? a d to slack) ∷ eqb (length new) (a .n * a .b) ∷
-      same? (a .n) (a .b) (has to) (cell (a .b) new) (λ j p. add (cell (a .b) old j p) (block a d slack (suc j) p)) ∷
-      same? (a .n) (a .b) (λ i. not (has to i)) (cell (a .b) new) (cell (a .b) old) ∷ []
+      eqb 0 (updateGate a (length old) (length serials) (length d) to serial) ∷ conj (vanishes? a d to slack) ∷ eqb (length new) (a .n * a .b) ∷
+      same? (a .n) (a .b) taking (cell (a .b) new) (λ j p. add (cell (a .b) old j p) (block a d slack (suc j) p)) ∷
+      same? (a .n) (a .b) (λ i. not (taking i)) (cell (a .b) new) (cell (a .b) old) ∷ conj (stamped? (a .n) taking serial serials serials′) ∷ []
 
-  pub update-by : T (conj update?) → UpdatePost a d to old 0 new
+  pub update-by : T (conj update?) → UpdatePost a d to serial reached old serials 0 new serials′
   update-by h =
       let t = each update? h in
-      accepted (λ n. updateGate a n (length d) to) old old refl (t .0)
-      (record {
-        slack = slack;
-        vanishes = vanishes a d to slack (t .1 .0);
-        length-is = eqb→eq _ _ (t .1 .1 .0);
-        added = same (a .n) (a .b) (has to) (cell (a .b) new) (λ j p. add (cell (a .b) old j p) (block a d slack (suc j) p)) (t .1 .1 .1 .0);
-        kept = other (a .n) (a .b) (has to) (cell (a .b) new) (cell (a .b) old) (t .1 .1 .1 .1 .0);
-      })
+      accepted refl (t .0) (
+        record {
+          slack = slack;
+          vanishes = vanishes a d to slack (t .1 .0);
+          length-is = eqb→eq _ _ (t .1 .1 .0);
+          added = same (a .n) (a .b) taking (cell (a .b) new) (λ j p. add (cell (a .b) old j p) (block a d slack (suc j) p)) (t .1 .1 .1 .0);
+          kept = other (a .n) (a .b) taking (cell (a .b) new) (cell (a .b) old) (t .1 .1 .1 .1 .0);
+        },
+        stamped (a .n) taking serial serials serials′ (t .1 .1 .1 .1 .1 .0),
+      )
 
-module _ (a : Params) (from lost : ℕ) (old new message slack : List ℕ) where
+module _ (a : Params) (from lost : ℕ) (old serials new serials′ message slack : List ℕ) where
   abbrev pub repair? : List Bool
   repair? =
-      eqb 0 (repairGate a (length old) from lost) ∷ conj (gives? a message slack (used a from) old) ∷ eqb (length new) (a .n * a .b) ∷
+      eqb 0 (repairGate a (length old) (length serials) from lost) ∷ conj (gives? a message slack (used a from) old) ∷ eqb (length new) (a .n * a .b) ∷
       same? (a .n) (a .b) (has lost) (cell (a .b) new) (λ j. block a message slack (suc j)) ∷
-      same? (a .n) (a .b) (λ i. not (has lost i)) (cell (a .b) new) (cell (a .b) old) ∷ []
+      same? (a .n) (a .b) (λ i. not (has lost i)) (cell (a .b) new) (cell (a .b) old) ∷
+      conj (stamped? (a .n) (has lost) (highest (has from) serials (a .n)) serials serials′) ∷ []
 
-  pub repair-by : T (conj repair?) → RepairPost a from lost old 0 new
+  pub repair-by : T (conj repair?) → RepairPost a from lost old serials 0 new serials′
   repair-by h =
       let t = each repair? h in
-      accepted (λ n. repairGate a n from lost) old old refl (t .0)
-      (record {
-        message = message;
-        slack = slack;
-        gives = gives a message slack (used a from) old (t .1 .0);
-        length-is = eqb→eq _ _ (t .1 .1 .0);
-        rebuilt = same (a .n) (a .b) (has lost) (cell (a .b) new) (λ j. block a message slack (suc j)) (t .1 .1 .1 .0);
-        kept = other (a .n) (a .b) (has lost) (cell (a .b) new) (cell (a .b) old) (t .1 .1 .1 .1 .0);
-      })
+      accepted refl (t .0) (
+        record {
+          message = message;
+          slack = slack;
+          gives = gives a message slack (used a from) old (t .1 .0);
+          length-is = eqb→eq _ _ (t .1 .1 .0);
+          rebuilt = same (a .n) (a .b) (has lost) (cell (a .b) new) (λ j. block a message slack (suc j)) (t .1 .1 .1 .0);
+          kept = other (a .n) (a .b) (has lost) (cell (a .b) new) (cell (a .b) old) (t .1 .1 .1 .1 .0);
+        },
+        stamped (a .n) (has lost) (highest (has from) serials (a .n)) serials serials′ (t .1 .1 .1 .1 .1 .0),
+      )
 
-module _ (a : Params) (t : Shape) (old : List ℕ) (from to : ℕ) (x new oldMessage oldSlack slack : List ℕ) where
+module _ (a : Params) (t : Shape) (old serials : List ℕ) (from to : ℕ) (x new serials′ oldMessage oldSlack slack : List ℕ) where
   abbrev pub reconfigure? : List Bool
   reconfigure? =
-      eqb 0 (reconfigureGate a t (length old) (length new) (length x) from to) ∷ conj (gives? a oldMessage oldSlack (used a from) old) ∷
-      parts? (a .b) (t .k) x ∷ parts? (a .b) (slackParts (reshaped a t)) slack ∷
+      eqb 0 (reconfigureGate a t (length old) (length serials) (length new) (length serials′) (length x) from to) ∷
+      conj (gives? a oldMessage oldSlack (used a from) old) ∷ parts? (a .b) (t .k) x ∷ parts? (a .b) (slackParts (reshaped a t)) slack ∷
       same? (t .n) (a .b) (λ i. not (has to i)) (λ j. block (reshaped a t) x slack (suc j)) (λ j. block a oldMessage oldSlack (suc j)) ∷
       eqb (length new) (t .n * a .b) ∷ same? (t .n) (a .b) (writes a to) (cell (a .b) new) (λ j. block (reshaped a t) x slack (suc j)) ∷
-      same? (t .n) (a .b) (λ i. not (writes a to i)) (cell (a .b) new) (cell (a .b) old) ∷ []
+      same? (t .n) (a .b) (λ i. not (writes a to i)) (cell (a .b) new) (cell (a .b) old) ∷
+      conj (stamped? (t .n) (writes a to) (highest (has from) serials (a .n)) serials serials′) ∷ []
 
-  pub reconfigure-by : T (conj reconfigure?) → (buffer : List ℕ) → length buffer ≡ length new → ReconfigurePost a t old from to x buffer 0 new
-  reconfigure-by h buffer e =
+  pub reconfigure-by : T (conj reconfigure?) → (buffer numbers : List ℕ) → length buffer ≡ length new → length numbers ≡ length serials′
+      → ReconfigurePost a t old serials from to x buffer numbers 0 new serials′
+  reconfigure-by h buffer numbers e f =
       let q = each reconfigure? h in
-      accepted (λ n. reconfigureGate a t (length old) n (length x) from to) buffer new e (q .0)
-      (record {
-        oldMessage = oldMessage;
-        oldSlack = oldSlack;
-        gives = gives a oldMessage oldSlack (used a from) old (q .1 .0);
-        slack = slack;
-        pair = record { message = parts (a .b) (t .k) x (q .1 .1 .0); slack = parts (a .b) (slackParts (reshaped a t)) slack (q .1 .1 .1 .0) };
-        agrees =
-            other (t .n) (a .b) (has to) (λ j. block (reshaped a t) x slack (suc j)) (λ j. block a oldMessage oldSlack (suc j)) (q .1 .1 .1 .1 .0);
-        length-is = eqb→eq _ _ (q .1 .1 .1 .1 .1 .0);
-        written = same (t .n) (a .b) (writes a to) (cell (a .b) new) (λ j. block (reshaped a t) x slack (suc j)) (q .1 .1 .1 .1 .1 .1 .0);
-        copied = other (t .n) (a .b) (writes a to) (cell (a .b) new) (cell (a .b) old) (q .1 .1 .1 .1 .1 .1 .1 .0);
-      })
+      accepted (ap₂ (λ (n m : ℕ). reconfigureGate a t (length old) (length serials) n m (length x) from to) (sym e) (sym f)) (q .0) (
+        record {
+          oldMessage = oldMessage;
+          oldSlack = oldSlack;
+          gives = gives a oldMessage oldSlack (used a from) old (q .1 .0);
+          slack = slack;
+          pair = record { message = parts (a .b) (t .k) x (q .1 .1 .0); slack = parts (a .b) (slackParts (reshaped a t)) slack (q .1 .1 .1 .0) };
+          agrees =
+              other (t .n) (a .b) (has to) (λ j. block (reshaped a t) x slack (suc j)) (λ j. block a oldMessage oldSlack (suc j)) (q .1 .1 .1 .1 .0);
+          length-is = eqb→eq _ _ (q .1 .1 .1 .1 .1 .0);
+          written = same (t .n) (a .b) (writes a to) (cell (a .b) new) (λ j. block (reshaped a t) x slack (suc j)) (q .1 .1 .1 .1 .1 .1 .0);
+          copied = other (t .n) (a .b) (writes a to) (cell (a .b) new) (cell (a .b) old) (q .1 .1 .1 .1 .1 .1 .1 .0);
+        },
+        stamped (t .n) (writes a to) (highest (has from) serials (a .n)) serials serials′ (q .1 .1 .1 .1 .1 .1 .1 .1 .0),
+      )
 
 -- a check of blocks that come from one pair
 module _ (a : Params) (codeword message slack : List ℕ) where
@@ -221,7 +274,7 @@ module _ (a : Params) (codeword message slack : List ℕ) where
   pub check-by : T (conj check?) → CheckPost a codeword Agrees
   check-by h =
       let t = each check? h in (
-        accepted (checkGate a) codeword codeword refl (t .0)
+        accepted refl (t .0)
             (record {
               message = message;
               slack = slack;
@@ -244,7 +297,7 @@ module _ (a : Params) (codeword message slack : List ℕ) (j p : ℕ) where
   pub differs-by : T (conj differs?) → CheckPost a codeword (Differs (record { 0 = suc j }))
   differs-by h =
       let t = each differs? h in (
-        accepted (checkGate a) codeword codeword refl (t .0)
+        accepted refl (t .0)
             (record {
               message = message;
               slack = slack;
@@ -263,15 +316,43 @@ module _ (a : Params) (codeword message slack : List ℕ) (j p : ℕ) where
       unlike : (x y : ℕ) → T (not (eqb x y)) → x ≡ y → ⊥
       unlike x y t e = subst (λ (b : Bool). T (not b)) (eq-eqb x y e) t
 
--- ---- sets without damaged nodes
+-- ---- sets without damaged nodes, closed changes
+
+-- a set within another test's nodes
+within-by : (from : ℕ) (f : ℕ → Bool) → from < 2 ^ 32 → T (allBelow 33 (λ i. implies (has from i) (f i))) → (i : ℕ) → has from i ≡ true → f i ≡ true
+within-by from f h t i s =
+    go (f i) (subst (λ (c : Bool). T (implies c (f i))) s (below 33 (λ i. implies (has from i) (f i)) t i (omega (arith, has-le 32 from i h s))))
+  where
+    go : (c : Bool) → T c → c ≡ true
+    go true t = refl
+    go false t = absurd t
 
 pub undamaged-by : (damaged : ℕ → Bool) (from : ℕ) → from < 2 ^ 32 → T (allBelow 33 (λ i. implies (has from i) (not (damaged i))))
     → (i : ℕ) → has from i ≡ true → damaged i ≡ false
-undamaged-by damaged from h t i s =
-    go (damaged i)
-    (subst (λ (c : Bool). T (implies c (not (damaged i)))) s
-    (below 33 (λ i. implies (has from i) (not (damaged i))) t i (omega (arith, has-le 32 from i h s))))
+undamaged-by damaged from h t i s = sym (Bool·not-not (damaged i)) ∙ ap not (within-by from (λ i. not (damaged i)) h t i s)
+
+-- The serials that were sent lie below a bound: none was, or one more was.
+pub sent-none : {s bound : ℕ} → false ≡ true → s < bound
+sent-none e = absurd (true≢false (sym e))
+
+pub sent-more : (serial : ℕ) {s bound : ℕ} {b : Bool} → T (ltb serial bound) → (b ≡ true → s < bound) → (eqb s serial || b) ≡ true → s < bound
+sent-more serial {s = s} {bound = bound} {b = b} t rest = go (eqb s serial) refl
   where
-    go : (c : Bool) → T (not c) → c ≡ false
-    go true t = absurd t
-    go false t = refl
+    go : (c : Bool) → eqb s serial ≡ c → (c || b) ≡ true → s < bound
+    go true q h = subst (λ (x : ℕ). x < bound) (sym (eqb→eq s serial (subst T (sym q) tt))) (ltb→lt serial bound t)
+    go false q h = rest h
+
+module _ (sent : ℕ → Bool) (to : ℕ → ℕ) (reached : ℕ → ℕ → Bool) (bound : ℕ) where
+  -- the change under this serial is closed
+  abbrev closedAt? : ℕ → List Bool
+  closedAt? s = ltb (to s) (2 ^ 32) ∷ allBelow 33 (λ i. implies (has (to s) i) (reached s i)) ∷ []
+
+  abbrev pub closed? : Bool
+  closed? = allBelow bound (λ s. implies (sent s) (conj (closedAt? s)))
+
+  pub closed-by : ((s : ℕ) → sent s ≡ true → s < bound) → T closed? → (s : ℕ) → sent s ≡ true → (i : ℕ) → has (to s) i ≡ true → reached s i ≡ true
+  closed-by low t s e =
+      let q =
+      each (closedAt? s)
+      (subst (λ (c : Bool). T (implies c (conj (closedAt? s)))) e (below bound (λ s. implies (sent s) (conj (closedAt? s))) t s (low s e))) in
+      within-by (to s) (reached s) (ltb→lt _ _ (q .0)) (q .1 .0)

@@ -1,5 +1,5 @@
--- The customer's third demand, as one claim about whole lists. A reading is that of a decode through r undamaged nodes, and all of these hold the blocks of a
--- pair whose message is the ledger (Invariant.antt); a pair is determined by the blocks of the q lowest of them. Assumes nothing.
+-- The customer's third demand, as one claim about whole lists. A reading is that of a decode through r undamaged nodes between closed changes, and all of these hold
+-- the blocks of a pair whose message is the ledger (Invariant.antt); a pair is determined by the blocks of the q lowest of them. Assumes nothing.
 use mathlib.Core.Path.{_≡_, refl, sym, _∙_, subst}
 use mathlib.Core.Logic.{_↔_}
 use mathlib.Core.List.{List}
@@ -12,7 +12,7 @@ use Rattle.code.proofs.Pairs.{gives-used}
 use Rattle.code.proofs.Theorems.{decode-message, decode-one}
 use Rattle.ledger.specs.Ledger.{Held, Machine, Event, History, Reading}
 use Rattle.ledger.proofs.Sound.{undamaged-gives}
-use Rattle.ledger.proofs.Invariant.{history-agrees}
+use Rattle.ledger.proofs.Invariant.{agrees-sound, history-agrees}
 
 -- "r being that of the arrangement then in force": system and machine have the same parameters.
 pub in-force : {events : List Event} {h : Held} {m : Machine} → History events h m → h .params ≡ m .params
@@ -22,10 +22,10 @@ in-force y = history-agrees y .same
 pub reading-is-ledger : {events : List Event} {h : Held} {m : Machine} {out : List ℕ} → History events h m → Reading h m out
     → out ≡ m .ledger
 reading-is-ledger {h = h} {m = m} {out = out} y rd =
-    let i = history-agrees y .sound in
+    let i = agrees-sound h m (history-agrees y) (rd .readable .closed) in
     let g = decode-accepted (h .params) (length (h .codeword)) (length (rd .buffer)) (rd .from) .0 (sym (rd .accepted .number)) in
     decode-message (h .params) (g .valid) (rd .from) (g .from-within) (g .from-size) (m .ledger) (i .slack) (h .codeword) out
-    (gives-used (h .params) (rd .from) (undamaged-gives (h .params) (h .codeword) (m .ledger) (m .damaged) i (rd .from) (rd .undamaged)))
+    (gives-used (h .params) (rd .from) (undamaged-gives (h .params) (h .codeword) (m .ledger) (m .damaged) i (rd .from) (rd .readable .undamaged)))
     (rd .accepted .served refl)
 
 -- "That reading is also the message of document 01's one pair that gives the blocks read": all r of them, and no other pair gives even those of the q lowest
@@ -35,8 +35,8 @@ pub reading-is-the-pair's : {events : List Event} {h : Held} {m : Machine} {out 
     × ((x′ v′ : List ℕ) → Gives (h .params) x′ v′ (used (h .params) (rd .from)) (h .codeword) → (x′ ≡ out) × (v′ ≡ v))
 reading-is-the-pair's {h = h} {m = m} {out = out} y rd =
     let a = h .params in
-    let i = history-agrees y .sound in
-    let all = undamaged-gives a (h .codeword) (m .ledger) (m .damaged) i (rd .from) (rd .undamaged) in
+    let i = agrees-sound h m (history-agrees y) (rd .readable .closed) in
+    let all = undamaged-gives a (h .codeword) (m .ledger) (m .damaged) i (rd .from) (rd .readable .undamaged) in
     let one = decode-one a (h .codeword) (rd .from) (rd .buffer) out (rd .accepted) in
     let same = one .2 (m .ledger) (i .slack) (gives-used a (rd .from) all) in (
       one .0,

@@ -1,11 +1,12 @@
--- The customer's three demands on one page. Demands 1 and 2 are the contracts of the calls (src/ of the crates views, encoding, decoding, updates, maintenance, reconfiguration
+-- The customer's three demands, and the law of the broken send, on one page. Demands 1 and 2 are the contracts of the calls (src/ of the crates views, encoding, decoding, updates, maintenance, reconfiguration
 -- and matrix): each is proved to meet the post-condition named here, for all arguments (view_status answers viewGate). This page says what such a post-condition
--- settles, and states demand 3. Assumes nothing.
+-- settles, and states demand 3 and that law. Assumes nothing.
 use mathlib.Core.Path.{_≡_, refl, sym}
 use mathlib.Core.List.{List, [], _∷_}
 use mathlib.Core.Logic.{_↔_}
-use Prim.Native.Nat.{ℕ}
-use lib.ListN.{length}
+use mathlib.Core.Bool.{true}
+use Prim.Native.Nat.{ℕ, suc, _<_}
+use lib.ListN.{length, getD}
 use Rattle.base.specs.Gate.{firstNo}
 use Rattle.field.specs.Field.{Bytes}
 use Rattle.matrix.specs.Invert.{InvertPost, sideAsked, lengthsAsked, inverseAsked, number as invertNumber}
@@ -18,33 +19,40 @@ use Rattle.params.specs.declared.Shape.{Shape}
 use Rattle.gates.specs.Gates.{encodeGate, decodeGate, deltaGate, updateGate, repairGate, checkGate, viewGate, reconfigureGate}
 use Rattle.code.specs.declared.Verdict.{Verdict}
 use Rattle.code.specs.Code.{Gives, used}
-use Rattle.code.specs.Calls.{Post, EncodePost, DecodePost, DeltaPost, UpdatePost, RepairPost, ReconfigurePost, CheckPost, ViewPost, number}
+use Rattle.serials.specs.Serials.{Stamped}
+use Rattle.code.specs.Calls.{Post, Unwritten, EncodePost, DecodePost, DeltaPost, Updated, UpdatePost, RepairPost, ReconfigurePost, CheckPost, ViewPost, number}
 use Rattle.gates.proofs.Valid.{encode-accepted, decode-accepted}
-use Rattle.code.proofs.Determined.{Met, Once, encode-met, encode-once, decode-met, decode-once, delta-met, delta-once, update-met, update-once, repair-met}
+use Rattle.code.proofs.Determined.{Met, Once, BothMet, BothOnce, encode-met, encode-once, decode-met, decode-once, delta-met, delta-once, update-met, update-once, repair-met}
 use Rattle.code.proofs.Determined.{repair-once, reconfigure-met, reconfigure-once, check-met, check-once, view-met, view-once}
 use Rattle.code.proofs.Theorems.{SameAt, decode-encode, gives-same}
+use Rattle.code.proofs.Sends.{Covers, Sendings, resend, resend-whole}
 use Rattle.ledger.specs.Ledger.{Held, Machine, Event, History, Reading}
 use Rattle.ledger.proofs.Demand3 as D3
 
 -- 1. "Where it can't be served it returns the number of the first question in document 01 whose answer is no, and no byte is written." The answer is the
--- gate's number, the first no of the call's list of questions (gates/specs/Gates.antt), and a refused call's buffer is as it was.
+-- gate's number, the first no of the call's list of questions (gates/specs/Gates.antt), and a refused call's buffers are as they were: bytes, and serials where
+-- it is lent them.
 abbrev pub Told : ℕ → ℕ → List ℕ → List ℕ → Type 0
 Told gate answer old new = (answer ≡ gate) × ((answer ≡ 0 → ⊥) → new ≡ old)
 
+abbrev pub BothTold : ℕ → ℕ → List ℕ → List ℕ → List ℕ → List ℕ → Type 0
+BothTold gate answer old serials new serials′ = (answer ≡ gate) × ((answer ≡ 0 → ⊥) → Unwritten old serials new serials′)
+
 pub record Demand1 : Type 0 where
-  pub set-up : {a : Params} {message slack old new : List ℕ} {answer : ℕ} → EncodePost a message slack old answer new
-      → Told (encodeGate a (length message) (length slack) (length old)) answer old new
+  pub set-up : {a : Params} {message slack old serials new serials′ : List ℕ} {answer : ℕ} → EncodePost a message slack old serials answer new serials′
+      → BothTold (encodeGate a (length message) (length slack) (length old) (length serials)) answer old serials new serials′
   pub reading : {a : Params} {codeword old new : List ℕ} {from answer : ℕ} → DecodePost a codeword from old answer new
       → Told (decodeGate a (length codeword) (length old) from) answer old new
   pub difference : {a : Params} {d old new : List ℕ} {to answer : ℕ} → DeltaPost a d to old answer new
       → Told (deltaGate a (length d) (length old) to) answer old new
-  pub change : {a : Params} {d old new : List ℕ} {to answer : ℕ} → UpdatePost a d to old answer new
-      → Told (updateGate a (length old) (length d) to) answer old new
-  pub rebuild : {a : Params} {old new : List ℕ} {from lost answer : ℕ} → RepairPost a from lost old answer new
-      → Told (repairGate a (length old) from lost) answer old new
-  pub rearrangement : {a : Params} {t : Shape} {codeword message old new : List ℕ} {from to answer : ℕ}
-      → ReconfigurePost a t codeword from to message old answer new
-      → Told (reconfigureGate a t (length codeword) (length old) (length message) from to) answer old new
+  pub change : {a : Params} {d old serials new serials′ : List ℕ} {to serial reached answer : ℕ}
+      → UpdatePost a d to serial reached old serials answer new serials′
+      → BothTold (updateGate a (length old) (length serials) (length d) to serial) answer old serials new serials′
+  pub rebuild : {a : Params} {old serials new serials′ : List ℕ} {from lost answer : ℕ} → RepairPost a from lost old serials answer new serials′
+      → BothTold (repairGate a (length old) (length serials) from lost) answer old serials new serials′
+  pub rearrangement : {a : Params} {t : Shape} {codeword serials message old numbers new serials′ : List ℕ} {from to answer : ℕ}
+      → ReconfigurePost a t codeword serials from to message old numbers answer new serials′
+      → BothTold (reconfigureGate a t (length codeword) (length serials) (length old) (length numbers) (length message) from to) answer old numbers new serials′
   pub check : {a : Params} {codeword : List ℕ} (answer : Verdict) → CheckPost a codeword answer → number answer ≡ checkGate a (length codeword)
   pub view : (a : Params) (codeword part : List ℕ) (node : ℕ) → ViewPost a codeword node part → (viewGate a (length codeword) node ≡ 0 → ⊥)
       → part ≡ []
@@ -54,12 +62,12 @@ pub record Demand1 : Type 0 where
 pub demand-1 : Demand1
 demand-1 =
     record {
-      set-up = told;
+      set-up = both-told;
       reading = told;
       difference = told;
-      change = told;
-      rebuild = told;
-      rearrangement = told;
+      change = both-told;
+      rebuild = both-told;
+      rearrangement = both-told;
       check = λ answer post. post .0 .number;
       view = λ a codeword part node post. post .refused;
       inverse = λ s m old new answer post. (post .first, post .refused);
@@ -68,20 +76,28 @@ demand-1 =
     told : {gate answer : ℕ} {old new : List ℕ} {Served : Type 0} → Post gate answer Served (new ≡ old) → Told gate answer old new
     told post = (post .number, post .refused)
 
--- 2. "Every block, view, reading, difference, check, .. rebuilt block and rearranged record is what .. document 01 fixes": a call's answer and every byte of its
--- buffer are settled by its post-condition. Some answer and list of bytes meet it, where the slices lent hold bytes (as by their type they do), and no other
--- does; but which dependent column an inverse names is left free.
+    both-told : {gate answer : ℕ} {old serials new serials′ : List ℕ} {Served : Type 0} → Post gate answer Served (Unwritten old serials new serials′)
+        → BothTold gate answer old serials new serials′
+    both-told post = (post .number, post .refused)
+
+-- 2. "Every block, view, reading, difference, check, .. rebuilt block and rearranged record is what .. document 01 fixes": a call's answer, every byte of its
+-- buffer and every serial are settled by its post-condition. Some answer and lists meet it, where the slices lent hold bytes (as by their type they do), and no
+-- other does; but which dependent column an inverse names is left free.
 abbrev pub Settled : Type 0 → (ℕ → List ℕ → Type 0) → Type 0
 Settled BytesLent P = (BytesLent → Met P) × Once P
 
+abbrev pub BothSettled : Type 0 → (ℕ → List ℕ → List ℕ → Type 0) → Type 0
+BothSettled BytesLent P = (BytesLent → BothMet P) × BothOnce P
+
 pub record Demand2 : Type 0 where
-  pub set-up : (a : Params) (message slack old : List ℕ) → Settled (Unit {0}) (EncodePost a message slack old)
+  pub set-up : (a : Params) (message slack old serials : List ℕ) → BothSettled (Unit {0}) (EncodePost a message slack old serials)
   pub reading : (a : Params) (codeword : List ℕ) (from : ℕ) (old : List ℕ) → Settled (Bytes codeword) (DecodePost a codeword from old)
   pub difference : (a : Params) (change : List ℕ) (to : ℕ) (old : List ℕ) → Settled (Unit {0}) (DeltaPost a change to old)
-  pub change : (a : Params) (d : List ℕ) (to : ℕ) (old : List ℕ) → Settled (Unit {0}) (UpdatePost a d to old)
-  pub rebuild : (a : Params) (from lost : ℕ) (old : List ℕ) → Settled (Bytes old) (RepairPost a from lost old)
-  pub rearrangement : (a : Params) (t : Shape) (codeword : List ℕ) (from to : ℕ) (message old : List ℕ)
-      → Settled (Bytes codeword × Bytes message) (ReconfigurePost a t codeword from to message old)
+  pub change : (a : Params) (d : List ℕ) (to serial reached : ℕ) (old serials : List ℕ)
+      → BothSettled (Unit {0}) (UpdatePost a d to serial reached old serials)
+  pub rebuild : (a : Params) (from lost : ℕ) (old serials : List ℕ) → BothSettled (Bytes old) (RepairPost a from lost old serials)
+  pub rearrangement : (a : Params) (t : Shape) (codeword serials : List ℕ) (from to : ℕ) (message old numbers : List ℕ)
+      → BothSettled (Bytes codeword × Bytes message) (ReconfigurePost a t codeword serials from to message old numbers)
   pub check : (a : Params) (codeword : List ℕ) → (Bytes codeword → (answer : Verdict) × CheckPost a codeword answer)
       × ((answer answer′ : Verdict) → CheckPost a codeword answer → CheckPost a codeword answer′ → answer ≡ answer′)
   pub view : (a : Params) (codeword : List ℕ) (node : ℕ) → ((part : List ℕ) × ViewPost a codeword node part)
@@ -93,13 +109,16 @@ pub record Demand2 : Type 0 where
 pub demand-2 : Demand2
 demand-2 =
     record {
-      set-up = λ a message slack old. (λ _. encode-met a message slack old, encode-once a message slack old);
+      set-up = λ a message slack old serials. (λ _. encode-met a message slack old serials, encode-once a message slack old serials);
       reading = λ a codeword from old. (decode-met a codeword from old, decode-once a codeword from old);
       difference = λ a d to old. (λ _. delta-met a d to old, delta-once a d to old);
-      change = λ a d to old. (λ _. update-met a d to old, update-once a d to old);
-      rebuild = λ a from lost old. (repair-met a from lost old, repair-once a from lost old);
-      rearrangement = λ a t codeword from to message old.
-          (λ h. reconfigure-met a t codeword from to message old (h .0) (h .1), reconfigure-once a t codeword from to message old);
+      change = λ a d to serial reached old serials.
+          (λ _. update-met a d to serial reached old serials, update-once a d to serial reached old serials);
+      rebuild = λ a from lost old serials. (repair-met a from lost old serials, repair-once a from lost old serials);
+      rearrangement = λ a t codeword serials from to message old numbers. (
+        λ h. reconfigure-met a t codeword serials from to message old numbers (h .0) (h .1),
+        reconfigure-once a t codeword serials from to message old numbers,
+      );
       check = λ a codeword. (check-met a codeword, check-once a codeword);
       view = λ a codeword node. (view-met a codeword node, view-once a codeword node);
       inverse = λ s m old. (invert-met s m old, invert-once s m old);
@@ -107,18 +126,20 @@ demand-2 =
 
 -- From message to blocks, and from any r blocks back: an accepted reading through r nodes, the q lowest of which hold their blocks of an accepted set-up
 -- (SameAt), gives its message, whatever the others hold, those of R too.
-pub demand-2-back : (a : Params) (message slack old codeword left buffer out : List ℕ) (from : ℕ) → Bytes message → Bytes slack
-    → EncodePost a message slack old 0 codeword → SameAt a from left codeword → DecodePost a left from buffer 0 out → out ≡ message
-demand-2-back a message slack old codeword left buffer out from hm hs set-up same reading =
-    let e = encode-accepted a _ _ _ .0 (sym (set-up .number)) in
+pub demand-2-back : (a : Params) (message slack old numbers codeword serials left buffer out : List ℕ) (from : ℕ) → Bytes message → Bytes slack
+    → EncodePost a message slack old numbers 0 codeword serials → SameAt a from left codeword → DecodePost a left from buffer 0 out → out ≡ message
+demand-2-back a message slack old numbers codeword serials left buffer out from hm hs set-up same reading =
+    let e = encode-accepted a _ _ _ _ .0 (sym (set-up .number)) in
     let d = decode-accepted a _ _ from .0 (sym (reading .number)) in
     decode-encode a (e .valid) from (d .from-within) (d .from-size) message slack codeword out
     (record { message = record { length-is = e .message-length; bytes = hm }; slack = record { length-is = e .slack-length; bytes = hs } })
-    (set-up .served refl)
+    (set-up .served refl .0)
     (record { slack = reading .served refl .slack; gives = gives-same a from (λ j p hj s hp. sym (same j p hj s hp)) (reading .served refl .gives) })
 
--- 3. For every list that document 01 allows (History: it opens with an accepted set-up; accepted rebuilds and rearrangements read undamaged nodes) and every
--- accepted reading after it through undamaged nodes (Reading): the bytes read are the ledger's, ..
+-- 3. For every list that documents 01 and 02 allow (History: it opens with an accepted set-up; each accepted change is a send of the change that its serial had
+-- before, or begins one, under a higher serial and with none open; accepted rebuilds and rearrangements read undamaged nodes, between closed changes) and every
+-- accepted reading after it through undamaged nodes, between closed changes (Reading): the bytes read are the ledger's, in which all sends under one serial count
+-- once, ..
 pub demand-3 : {events : List Event} {h : Held} {m : Machine} {out : List ℕ} → History events h m → Reading h m out → out ≡ m .ledger
 demand-3 = D3.reading-is-ledger
 
@@ -132,3 +153,17 @@ demand-3-pair = D3.reading-is-the-pair's
 pub demand-3-equal : {events events′ : List Event} {h h′ : Held} {m m′ : Machine} {out out′ : List ℕ}
     → History events h m → History events′ h′ m′ → Reading h m out → Reading h′ m′ out′ → (out ≡ out′) ↔ (m .ledger ≡ m′ .ledger)
 demand-3-equal = D3.readings-equal
+
+-- "Whichever traps had it before the drop, sending the same change to all w again, with nothing else written between, must give the record of one whole change"
+-- (document 02, 2026-03). After any sends of one change (Sendings), a send that reaches all of W (Covers) leaves record and serials as it would have done alone, ..
+pub broken-send : {a : Params} {d old serials mid serials₁ new serials₂ : List ℕ} {to serial : ℕ} (reached : ℕ) → Covers reached to
+    → Sendings a d to serial old serials mid serials₁ → UpdatePost a d to serial reached mid serials₁ 0 new serials₂
+    → UpdatePost a d to serial reached old serials 0 new serials₂
+broken-send = resend
+
+-- .. and that, where the change was new to W, is the change of document 01: the differences are added to W's blocks, and W's nodes have the serial.
+pub broken-send-whole : {a : Params} {d old serials mid serials₁ new serials₂ : List ℕ} {to serial : ℕ} (reached : ℕ) → Covers reached to
+    → ((j : ℕ) → j < a .n → has to (suc j) ≡ true → getD serials j 0 < serial) → Sendings a d to serial old serials mid serials₁
+    → UpdatePost a d to serial reached mid serials₁ 0 new serials₂
+    → Updated a old d to (has to) new × Stamped (a .n) (has to) serial serials serials₂
+broken-send-whole = resend-whole

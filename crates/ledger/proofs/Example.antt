@@ -1,8 +1,9 @@
--- A list with every kind of event, accepted and refused, shown to be a history by computing its posts; and the reading after it. Assumes nothing.
-use mathlib.Core.Path.{_≡_, refl}
-use mathlib.Core.Bool.{Bool, not, _&&_, _||_}
+-- A list with every kind of event, accepted and refused, shown to be a history by computing its posts; and the reading after it. Its first change breaks off, a
+-- node is damaged while it is open, and it is sent again. Assumes nothing.
+use mathlib.Core.Path.{_≡_, refl, sym}
+use mathlib.Core.Bool.{Bool, true, false, not, _&&_, _||_, true≢false}
 use mathlib.Core.List.{List, [], _∷_, _++_}
-use Prim.Native.Nat.{ℕ, suc}
+use Prim.Native.Nat.{ℕ, suc, _<_}
 use native.Mathlib.Omega.{arith}
 use lib.Count.{ones}
 use lib.Dec.{leb, eqb}
@@ -14,40 +15,54 @@ use Rattle.interpolation.specs.Polynomial.{evaluate}
 use Rattle.params.specs.Nodes.{has, size, within, disjoint, count, lowest}
 use Rattle.params.specs.Params.{slackParts, working}
 use Rattle.gates.specs.Gates.{encodeGate, decodeGate, deltaGate, updateGate, repairGate, reconfigureGate, checkGate, viewGate, damageGate}
+use Rattle.serials.specs.Serials.{highest}
 use Rattle.code.specs.Code.{point, block}
-use Rattle.code.specs.Calls.{Post}
+use Rattle.code.specs.Calls.{Post, Unwritten}
 use Rattle.code.specs.declared.Verdict.the-variants.{Refused, Agrees}
-use Rattle.ledger.specs.Ledger.{Held, begun, Machine, opened, held, other, encode, update, repair, reconfigure, decode, delta, check, view, Call, Event}
-use Rattle.ledger.specs.Ledger.{call, damage, damagedWord, encoded, updated, repaired, reconfigured, decoded, differed, checked, viewed}
-use Rattle.ledger.specs.Ledger.{damaged, Run, done, more, History, Reading}
-use Rattle.ledger.proofs.Computed.{bytes, encode-by, decode-by, delta-by, update-by, repair-by, reconfigure-by, check-by, undamaged-by}
+use Rattle.ledger.specs.Ledger.{Held, begun, Sends, noSends, sending, Machine, opened, held, other, encode, update, repair, reconfigure, decode, delta}
+use Rattle.ledger.specs.Ledger.{check, view, Call, Event, call, damage, RecordInForce, inForce, damagedWord, encoded, updated, repaired, reconfigured}
+use Rattle.ledger.specs.Ledger.{decoded, differed, checked, viewed, damaged, Closed, Sendable, Readable, Run, done, more, History, Reading}
+use Rattle.ledger.proofs.Computed.{bytes, words, encode-by, decode-by, delta-by, update-by, repair-by, reconfigure-by, check-by, undamaged-by}
+use Rattle.ledger.proofs.Computed.{sent-none, sent-more, closed-by}
 use Rattle.ledger.proofs.Invariant.{given-in-force}
 use Rattle.ledger.proofs.Demand3.{reading-is-ledger}
 use Rattle.ledger.proofs.Figures.{small, spare}
 
--- a call that is given the parameters and the record in force; first these, ..
+-- a call that is given the parameters, the record and the serials in force; first these, ..
 abbrev on-held : Call → Event
-on-held = call (record { params = small; codeword = held })
+on-held = call (record { params = small; codeword = held; serials = held })
 
 -- .. in the end those with slack to spare
 abbrev on-spare : Call → Event
-on-spare = call (record { params = spare; codeword = held })
+on-spare = call (record { params = spare; codeword = held; serials = held })
 
--- ---- accepted, from 06 0A 0C
+-- ---- accepted, from 06 0A 0C with serials 0 0 0
 
 -- node 2's block is 0A, which no other node has
 abbrev viewing : Event
 viewing = on-held (view 2)
 
--- change 05 through nodes 1 and 2 leaves 00 0C 0C
-abbrev change : Event
-change = on-held (update (0x05 ∷ []) 0b011)
+-- change 05 through nodes 1 and 2 under serial 1, but node 1 alone is reached: 00 0A 0C, serials 1 0 0
+abbrev broken-change : Event
+broken-change = on-held (update (0x05 ∷ []) 0b011 1 0b001)
 
+-- while it is open: a reading, a difference, and damage to node 1, FF 0A 0C
 abbrev reading : Event
 reading = on-held (decode (0x00 ∷ []) 0b101)
 
 abbrev difference : Event
 difference = on-held (delta (0x05 ∷ []) (0x00 ∷ 0x00 ∷ []) 0b011)
+
+abbrev open-blow : Event
+open-blow = damage 1 (0xff ∷ [])
+
+-- the change is sent again, to all nodes; node 2 of W alone has a lower serial: FF 0C 0C, serials 1 1 0. It is closed.
+abbrev change-again : Event
+change-again = on-held (update (0x05 ∷ []) 0b011 1 0b111)
+
+-- node 1 is rebuilt from nodes 2 and 3, whose highest serial is 1: 00 0C 0C, serials 1 1 0
+abbrev first-rebuild : Event
+first-rebuild = on-held (repair 0b110 0b001)
 
 abbrev checking : Event
 checking = on-held check
@@ -58,9 +73,13 @@ checking = on-held check
 abbrev bad-set-up : Event
 bad-set-up = on-held (encode (0x07 ∷ []) (0x01 ∷ 0x01 ∷ []))
 
--- through one node: 8
+-- through one node: 8, though the serial is 0
 abbrev bad-change : Event
-bad-change = on-held (update (0x05 ∷ []) 0b001)
+bad-change = on-held (update (0x05 ∷ []) 0b001 0 0b001)
+
+-- under serial 0: 24
+abbrev bad-serial : Event
+bad-serial = on-held (update (0x05 ∷ []) 0b011 0 0b011)
 
 -- a node that is lost is read: 9
 abbrev bad-rebuild : Event
@@ -68,7 +87,7 @@ bad-rebuild = on-held (repair 0b011 0b001)
 
 -- to (1,1,1,2), where r + w is below k + n: 14
 abbrev bad-rearrangement : Event
-bad-rearrangement = on-held (reconfigure (record { k = 1; r = 1; w = 1; n = 2 }) (0x00 ∷ 0x00 ∷ []) (0x09 ∷ []) 0b011 0b011)
+bad-rearrangement = on-held (reconfigure (record { k = 1; r = 1; w = 1; n = 2 }) (0x00 ∷ 0x00 ∷ []) (0 ∷ 0 ∷ []) (0x09 ∷ []) 0b011 0b011)
 
 -- node 4 is read: 7
 abbrev bad-reading : Event
@@ -76,11 +95,11 @@ bad-reading = on-held (decode (0x00 ∷ []) 0b1001)
 
 -- with blocks of no bytes: 5
 abbrev bad-difference : Event
-bad-difference = call (record { params = record { k = 1; r = 2; w = 2; n = 3; b = 0 }; codeword = held }) (delta [] [] 0b011)
+bad-difference = call (record { params = record { k = 1; r = 2; w = 2; n = 3; b = 0 }; codeword = held; serials = held }) (delta [] [] 0b011)
 
 -- another record, which is too short: 6
 abbrev bad-check : Event
-bad-check = call (record { params = small; codeword = other (0x06 ∷ 0x0a ∷ []) }) check
+bad-check = call (record { params = small; codeword = other (0x06 ∷ 0x0a ∷ []); serials = held }) check
 
 -- of node 0: 10
 abbrev bad-view : Event
@@ -96,32 +115,33 @@ bad-blow = damage 4 (0xff ∷ [])
 abbrev blow : Event
 blow = damage 1 (0xff ∷ [])
 
--- change 05 through nodes 1 and 2 leaves F9 0A 0C, and node 1 damaged
+-- change 05 through nodes 1 and 2 leaves F9 0A 0C, serials 2 2 0, and node 1 damaged
 abbrev change-over : Event
-change-over = on-held (update (0x05 ∷ []) 0b011)
+change-over = on-held (update (0x05 ∷ []) 0b011 2 0b011)
 
--- node 1 is rebuilt: 06 0A 0C
+-- node 1 is rebuilt: 06 0A 0C, serials 2 2 0
 abbrev rebuild : Event
 rebuild = on-held (repair 0b110 0b001)
 
--- node 1 is damaged again, and its block copied into the next record, AA 2E 28, whose message is 09
+-- node 1 is damaged again, and its block copied into the next record, AA 2E 28, whose message is 09. Nodes 2 and 3 are written and take 2, node 1 keeps its own: 2 2 2
 abbrev second-blow : Event
 second-blow = damage 1 (0xaa ∷ [])
 
 abbrev rearrangement : Event
-rearrangement = on-held (reconfigure (record { k = 1; r = 2; w = 2; n = 3 }) (0x00 ∷ 0x00 ∷ 0x00 ∷ []) (0x09 ∷ []) 0b110 0b110)
+rearrangement = on-held (reconfigure (record { k = 1; r = 2; w = 2; n = 3 }) (0x00 ∷ 0x00 ∷ 0x00 ∷ []) (9 ∷ 9 ∷ 9 ∷ []) (0x09 ∷ []) 0b110 0b110)
 
 -- all nodes are written anew for (2,2,3,3): 00 06 06
 abbrev widening : Event
-widening = on-held (reconfigure (record { k = 2; r = 2; w = 3; n = 3 }) (0x00 ∷ 0x00 ∷ 0x00 ∷ []) (0x01 ∷ 0x01 ∷ []) 0b110 0b111)
+widening =
+    on-held (reconfigure (record { k = 2; r = 2; w = 3; n = 3 }) (0x00 ∷ 0x00 ∷ 0x00 ∷ []) (0 ∷ 0 ∷ 0 ∷ []) (0x01 ∷ 0x01 ∷ []) 0b110 0b111)
 
 -- ---- accepted, with slack to spare
 
 -- all nodes are written anew for (1,2,3,3), which reads two nodes and uses one: 07 0E 09
 abbrev sparing : Event
 sparing =
-    call (record { params = record { k = 2; r = 2; w = 3; n = 3; b = 1 }; codeword = held })
-    (reconfigure (record { k = 1; r = 2; w = 3; n = 3 }) (0x00 ∷ 0x00 ∷ 0x00 ∷ []) (0x07 ∷ []) 0b011 0b111)
+    call (record { params = record { k = 2; r = 2; w = 3; n = 3; b = 1 }; codeword = held; serials = held })
+    (reconfigure (record { k = 1; r = 2; w = 3; n = 3 }) (0x00 ∷ 0x00 ∷ 0x00 ∷ []) (0 ∷ 0 ∷ 0 ∷ []) (0x07 ∷ []) 0b011 0b111)
 
 abbrev spare-check : Event
 spare-check = on-spare check
@@ -142,28 +162,77 @@ spare-reading = on-spare (decode (0x00 ∷ []) 0b110)
 
 -- to (1,3,2,3), which reads all three nodes and uses two: node 1's block is copied, 07 02 05, and the message is 05
 abbrev spare-rearrangement : Event
-spare-rearrangement = on-spare (reconfigure (record { k = 1; r = 3; w = 2; n = 3 }) (0x00 ∷ 0x00 ∷ 0x00 ∷ []) (0x05 ∷ []) 0b101 0b110)
+spare-rearrangement =
+    on-spare (reconfigure (record { k = 1; r = 3; w = 2; n = 3 }) (0x00 ∷ 0x00 ∷ 0x00 ∷ []) (0 ∷ 0 ∷ 0 ∷ []) (0x05 ∷ []) 0b101 0b110)
 
--- change 05 through nodes 1 and 2 leaves 01 04 05: message 00, though no block is 00
+-- the change of serial 2 once more: it moves nobody, and the ledger has counted it
+abbrev late-send : Event
+late-send = call (record { params = record { k = 1; r = 3; w = 2; n = 3; b = 1 }; codeword = held; serials = held }) (update (0x05 ∷ []) 0b011 2 0b011)
+
+-- change 05 through nodes 1 and 2 leaves 01 04 05, serials 3 3 2: message 00, though no block is 00
 abbrev spare-change : Event
-spare-change = call (record { params = record { k = 1; r = 3; w = 2; n = 3; b = 1 }; codeword = held }) (update (0x05 ∷ []) 0b011)
+spare-change = call (record { params = record { k = 1; r = 3; w = 2; n = 3; b = 1 }; codeword = held; serials = held }) (update (0x05 ∷ []) 0b011 3 0b011)
 
--- the list is in two parts, since one as long would take three times as long to check, ..
+-- ---- the list, in three parts, since one as long would take much longer to check
+
 abbrev first : List Event
-first =
-    viewing ∷ change ∷ reading ∷ difference ∷ checking ∷
-    bad-set-up ∷ bad-change ∷ bad-rebuild ∷ bad-rearrangement ∷ bad-reading ∷ bad-difference ∷ bad-check ∷ bad-view ∷ bad-blow ∷
-    blow ∷ change-over ∷ rebuild ∷ second-blow ∷ rearrangement ∷ widening ∷ []
+first = viewing ∷ broken-change ∷ reading ∷ difference ∷ open-blow ∷ change-again ∷ first-rebuild ∷ checking ∷ []
 
 abbrev second : List Event
-second = sparing ∷ spare-check ∷ third-blow ∷ spare-rebuild ∷ fourth-blow ∷ spare-reading ∷ spare-rearrangement ∷ spare-change ∷ []
+second =
+    bad-set-up ∷ bad-change ∷ bad-serial ∷ bad-rebuild ∷ bad-rearrangement ∷ bad-reading ∷ bad-difference ∷ bad-check ∷ bad-view ∷ bad-blow ∷
+    blow ∷ change-over ∷ rebuild ∷ second-blow ∷ rearrangement ∷ widening ∷ []
+
+abbrev third : List Event
+third = sparing ∷ spare-check ∷ third-blow ∷ spare-rebuild ∷ fourth-blow ∷ spare-reading ∷ spare-rearrangement ∷ late-send ∷ spare-change ∷ []
 
 abbrev pub events : List Event
-events = first ++ second
+events = first ++ (second ++ third)
 
--- .. with what the first leaves, and what the machine then holds, ..
+-- what is kept of the changes after each of them
+abbrev broken : Sends
+broken = sending (0x05 ∷ []) 0b011 1 0b001 noSends
+
+abbrev mended : Sends
+mended = sending (0x05 ∷ []) 0b011 1 0b111 broken
+
+abbrev over : Sends
+over = sending (0x05 ∷ []) 0b011 2 0b011 mended
+
+abbrev late : Sends
+late = sending (0x05 ∷ []) 0b011 2 0b011 over
+
+-- the changes up to a serial, all closed
+mended-low : (s : ℕ) → mended .sent s ≡ true → s < 2
+mended-low s = sent-more 1 tt (sent-more 1 tt sent-none)
+
+over-low : (s : ℕ) → over .sent s ≡ true → s < 3
+over-low s = sent-more 2 tt (sent-more 1 tt (sent-more 1 tt sent-none))
+
+late-low : (s : ℕ) → late .sent s ≡ true → s < 3
+late-low s = sent-more 2 tt (sent-more 2 tt (sent-more 1 tt (sent-more 1 tt sent-none)))
+
+mended-closed : Closed mended
+unfolding has
+mended-closed = closed-by (mended .sent) (mended .to) (mended .reached) 2 mended-low tt
+
+over-closed : Closed over
+unfolding has
+over-closed = closed-by (over .sent) (over .to) (over .reached) 3 over-low tt
+
+late-closed : Closed late
+unfolding has
+late-closed = closed-by (late .sent) (late .to) (late .reached) 3 late-low tt
+
+-- what the parts leave, and what the machine then holds
+abbrev repaired-held : Held
+repaired-held = begun small (0x00 ∷ 0x0c ∷ 0x0c ∷ []) (1 ∷ 1 ∷ 0 ∷ [])
+
+abbrev mended-machine : Machine
+mended-machine = record { params = small; ledger = 0x02 ∷ []; damaged = λ i. (false || eqb i 1) && not (has 0b001 i); sends = mended }
+
 abbrev wide : Held
-wide = record { params = record { k = 2; r = 2; w = 3; n = 3; b = 1 }; codeword = 0x00 ∷ 0x06 ∷ 0x06 ∷ [] }
+wide = begun (record { k = 2; r = 2; w = 3; n = 3; b = 1 }) (0x00 ∷ 0x06 ∷ 0x06 ∷ []) (2 ∷ 2 ∷ 2 ∷ [])
 
 -- a rearrangement takes damaged nodes out of the set: there are three nodes before and after it
 abbrev rewrites : ℕ → (ℕ → Bool) → ℕ → Bool
@@ -171,11 +240,15 @@ rewrites to before i = ((before i && not (has to i)) && leb i 3) && leb i 3
 
 abbrev widened : Machine
 widened =
-    record { params = wide .params; ledger = 0x01 ∷ 0x01 ∷ []; damaged = rewrites 0b111 (rewrites 0b110 (λ i. (eqb i 1 && not (has 0b001 i)) || eqb i 1)) }
+    record {
+      params = wide .params;
+      ledger = 0x01 ∷ 0x01 ∷ [];
+      damaged = rewrites 0b111 (rewrites 0b110 (λ i. ((mended-machine .damaged i || eqb i 1) && not (has 0b001 i)) || eqb i 1));
+      sends = over;
+    }
 
--- .. and the whole
 abbrev pub left : Held
-left = record { params = record { k = 1; r = 3; w = 2; n = 3; b = 1 }; codeword = 0x01 ∷ 0x04 ∷ 0x05 ∷ [] }
+left = begun (record { k = 1; r = 3; w = 2; n = 3; b = 1 }) (0x01 ∷ 0x04 ∷ 0x05 ∷ []) (3 ∷ 3 ∷ 2 ∷ [])
 
 abbrev pub machine : Machine
 machine =
@@ -183,6 +256,7 @@ machine =
       params = left .params;
       ledger = 0x00 ∷ [];
       damaged = rewrites 0b110 (λ i. (rewrites 0b111 (widened .damaged) i || eqb i 3) && not (has 0b100 i) || eqb i 2);
+      sends = sending (0x05 ∷ []) 0b011 3 0b011 late;
     }
 
 -- an answer other than 0
@@ -192,60 +266,112 @@ never q z = omega arith
 refused : {gate : ℕ} {A : Type 0} {old : List ℕ} (q : ℕ) → suc q ≡ gate → Post gate (suc q) A (old ≡ old)
 refused q e = record { number = e; served = λ z. absurd (never q z); refused = λ _. refl }
 
-first-run : Run (begun small (0x06 ∷ 0x0a ∷ 0x0c ∷ [])) (opened small (0x07 ∷ [])) first wide widened
-unfolding encodeGate decodeGate deltaGate updateGate repairGate reconfigureGate checkGate viewGate damageGate firstNo slackParts working
-    has size ones within disjoint count lowest cell blocks tabulate block point evaluate sum add mul pow damagedWord plus
+both-refused : {gate : ℕ} {A : Type 0} {old serials : List ℕ} (q : ℕ) → suc q ≡ gate → Post gate (suc q) A (Unwritten old serials old serials)
+both-refused q e = record { number = e; served = λ z. absurd (never q z); refused = λ _. (refl, refl) }
+
+-- the record in force, for calls that are lent no serials
+record-in-force : (h : Held) → RecordInForce h (inForce h)
+record-in-force h = record { params = refl; codeword = refl }
+
+first-run : Run (begun small (0x06 ∷ 0x0a ∷ 0x0c ∷ []) (0 ∷ 0 ∷ 0 ∷ [])) (opened small (0x07 ∷ [])) first repaired-held mended-machine
+unfolding encodeGate decodeGate deltaGate updateGate repairGate checkGate viewGate damageGate firstNo slackParts working
+    has size ones within disjoint count lowest highest cell blocks tabulate block point evaluate sum add mul pow damagedWord plus
 first-run =
-    more {e = viewing} tt (λ _. given-in-force _) (viewed (0x0a ∷ []) refl (record { number = refl; served = λ _. refl; refused = λ ne. absurd (ne refl) })) (
-    more {e = change} (tt, bytes (0x05 ∷ []) tt, omega arith) (λ _. given-in-force _)
-    (updated 0 (0x00 ∷ 0x0c ∷ 0x0c ∷ []) (update-by _ _ _ _ _ (0x03 ∷ []) tt)) (
-    more {e = reading} (tt, bytes (0x00 ∷ []) tt, omega arith) (λ _. given-in-force _) (decoded 0 (0x02 ∷ []) (decode-by _ _ _ _ (0x02 ∷ []) tt _ refl)) (
+    more {e = viewing} (tt, tt) (λ _. record-in-force _)
+    (viewed (0x0a ∷ []) refl (record { number = refl; served = λ _. refl; refused = λ ne. absurd (ne refl) })) (
+    more {e = broken-change} ((tt, tt), bytes (0x05 ∷ []) tt, omega arith, omega arith, omega arith)
+    (λ _. (
+      given-in-force _,
+      record {
+        same = λ e. absurd (true≢false (sym e));
+        higher = λ _ s e. absurd (true≢false (sym e));
+        alone = λ _ s e. absurd (true≢false (sym e));
+      },
+    ))
+    (updated 0 (0x00 ∷ 0x0a ∷ 0x0c ∷ []) (1 ∷ 0 ∷ 0 ∷ []) (update-by _ _ _ _ _ _ _ _ _ (0x03 ∷ []) tt)) (
+    more {e = reading} ((tt, tt), bytes (0x00 ∷ []) tt, omega arith) (λ _. record-in-force _)
+    (decoded 0 (0x02 ∷ []) (decode-by _ _ _ _ (0x02 ∷ []) tt _ refl)) (
     more {e = difference} (bytes (0x05 ∷ []) tt, bytes (0x00 ∷ 0x00 ∷ []) tt, omega arith) (λ _. refl)
     (differed 0 (0x06 ∷ 0x06 ∷ []) (delta-by _ _ _ _ (0x03 ∷ []) tt _ refl)) (
-    more {e = checking} tt (λ _. given-in-force _) (checked Agrees refl (check-by _ _ (0x02 ∷ []) (0x02 ∷ []) tt)) (
-    more {e = bad-set-up} (tt, bytes (0x07 ∷ []) tt, bytes (0x01 ∷ 0x01 ∷ []) tt) (λ z. absurd (never 5 z)) (encoded 6 _ (refused 5 refl)) (
-    more {e = bad-change} (tt, bytes (0x05 ∷ []) tt, omega arith) (λ z. absurd (never 7 z)) (updated 8 _ (refused 7 refl)) (
-    more {e = bad-rebuild} (tt, omega arith, omega arith) (λ z. absurd (never 8 z)) (repaired 9 _ (refused 8 refl)) (
-    more {e = bad-rearrangement} (tt, bytes (0x00 ∷ 0x00 ∷ []) tt, bytes (0x09 ∷ []) tt, omega arith, omega arith) (λ z. absurd (never 13 z))
-    (reconfigured 14 (0x00 ∷ 0x00 ∷ []) (refused 13 refl)) (
-    more {e = bad-reading} (tt, bytes (0x00 ∷ []) tt, omega arith) (λ z. absurd (never 6 z)) (decoded 7 (0x00 ∷ []) (refused 6 refl)) (
+    more {e = open-blow} (bytes (0xff ∷ []) tt) (λ _. tt) (damaged refl) (
+    more {e = change-again} ((tt, tt), bytes (0x05 ∷ []) tt, omega arith, omega arith, omega arith)
+    (λ _. (
+      given-in-force _,
+      record { same = λ _. (refl, refl); higher = λ e. absurd (true≢false e); alone = λ e. absurd (true≢false e) },
+    ))
+    (updated 0 (0xff ∷ 0x0c ∷ 0x0c ∷ []) (1 ∷ 1 ∷ 0 ∷ []) (update-by _ _ _ _ _ _ _ _ _ (0x03 ∷ []) tt)) (
+    more {e = first-rebuild} ((tt, tt), omega arith, omega arith)
+    (λ _. (given-in-force _, record { undamaged = undamaged-by _ 0b110 (omega arith) tt; closed = mended-closed }))
+    (repaired 0 (0x00 ∷ 0x0c ∷ 0x0c ∷ []) (1 ∷ 1 ∷ 0 ∷ []) (repair-by _ _ _ _ _ _ _ (0x02 ∷ []) (0x02 ∷ []) tt)) (
+    more {e = checking} (tt, tt) (λ _. record-in-force _) (checked Agrees refl (check-by _ _ (0x02 ∷ []) (0x02 ∷ []) tt)) done)))))))
+
+second-run : Run repaired-held mended-machine second wide widened
+unfolding encodeGate decodeGate deltaGate updateGate repairGate reconfigureGate checkGate viewGate damageGate firstNo slackParts working
+    has size ones within disjoint count lowest highest cell blocks tabulate block point evaluate sum add mul pow damagedWord plus
+second-run =
+    more {e = bad-set-up} ((tt, tt), bytes (0x07 ∷ []) tt, bytes (0x01 ∷ 0x01 ∷ []) tt) (λ z. absurd (never 5 z)) (encoded 6 _ _ (both-refused 5 refl)) (
+    more {e = bad-change} ((tt, tt), bytes (0x05 ∷ []) tt, omega arith, omega arith, omega arith) (λ z. absurd (never 7 z))
+    (updated 8 _ _ (both-refused 7 refl)) (
+    more {e = bad-serial} ((tt, tt), bytes (0x05 ∷ []) tt, omega arith, omega arith, omega arith) (λ z. absurd (never 23 z))
+    (updated 24 _ _ (both-refused 23 refl)) (
+    more {e = bad-rebuild} ((tt, tt), omega arith, omega arith) (λ z. absurd (never 8 z)) (repaired 9 _ _ (both-refused 8 refl)) (
+    more {e = bad-rearrangement} ((tt, tt), bytes (0x00 ∷ 0x00 ∷ []) tt, words (0 ∷ 0 ∷ []) tt, bytes (0x09 ∷ []) tt, omega arith, omega arith)
+    (λ z. absurd (never 13 z)) (reconfigured 14 (0x00 ∷ 0x00 ∷ []) (0 ∷ 0 ∷ []) (both-refused 13 refl)) (
+    more {e = bad-reading} ((tt, tt), bytes (0x00 ∷ []) tt, omega arith) (λ z. absurd (never 6 z)) (decoded 7 (0x00 ∷ []) (refused 6 refl)) (
     more {e = bad-difference} (bytes [] tt, bytes [] tt, omega arith) (λ z. absurd (never 4 z)) (differed 5 [] (refused 4 refl)) (
-    more {e = bad-check} (bytes (0x06 ∷ 0x0a ∷ []) tt) (λ z. absurd (never 5 z))
+    more {e = bad-check} (bytes (0x06 ∷ 0x0a ∷ []) tt, tt) (λ z. absurd (never 5 z))
     (checked (Refused 6) refl (record { number = refl; served = λ z. absurd (never 5 z); refused = λ _. refl }, never 5)) (
-    more {e = bad-view} tt (λ z. absurd (never 9 z))
+    more {e = bad-view} (tt, tt) (λ z. absurd (never 9 z))
     (viewed {q = 10} [] refl (record { number = refl; served = λ z. absurd (never 9 z); refused = λ _. refl })) (
     more {e = bad-blow} (bytes (0xff ∷ []) tt) (λ _. tt) (damaged refl) (
     more {e = blow} (bytes (0xff ∷ []) tt) (λ _. tt) (damaged refl) (
-    more {e = change-over} (tt, bytes (0x05 ∷ []) tt, omega arith) (λ _. given-in-force _)
-    (updated 0 (0xf9 ∷ 0x0a ∷ 0x0c ∷ []) (update-by _ _ _ _ _ (0x03 ∷ []) tt)) (
-    more {e = rebuild} (tt, omega arith, omega arith) (λ _. (given-in-force _, undamaged-by _ 0b110 (omega arith) tt))
-    (repaired 0 (0x06 ∷ 0x0a ∷ 0x0c ∷ []) (repair-by _ _ _ _ _ (0x07 ∷ []) (0x01 ∷ []) tt)) (
+    more {e = change-over} ((tt, tt), bytes (0x05 ∷ []) tt, omega arith, omega arith, omega arith)
+    (λ _. (
+      given-in-force _,
+      record { same = λ e. absurd (true≢false (sym e)); higher = λ _ s e. mended-low s e; alone = λ _. mended-closed },
+    ))
+    (updated 0 (0xf9 ∷ 0x0a ∷ 0x0c ∷ []) (2 ∷ 2 ∷ 0 ∷ []) (update-by _ _ _ _ _ _ _ _ _ (0x03 ∷ []) tt)) (
+    more {e = rebuild} ((tt, tt), omega arith, omega arith)
+    (λ _. (given-in-force _, record { undamaged = undamaged-by _ 0b110 (omega arith) tt; closed = over-closed }))
+    (repaired 0 (0x06 ∷ 0x0a ∷ 0x0c ∷ []) (2 ∷ 2 ∷ 0 ∷ []) (repair-by _ _ _ _ _ _ _ (0x07 ∷ []) (0x01 ∷ []) tt)) (
     more {e = second-blow} (bytes (0xaa ∷ []) tt) (λ _. tt) (damaged refl) (
-    more {e = rearrangement} (tt, bytes (0x00 ∷ 0x00 ∷ 0x00 ∷ []) tt, bytes (0x09 ∷ []) tt, omega arith, omega arith)
-    (λ _. (given-in-force _, undamaged-by _ 0b110 (omega arith) tt))
-    (reconfigured 0 (0xaa ∷ 0x2e ∷ 0x28 ∷ []) (reconfigure-by _ _ _ _ _ _ _ (0x07 ∷ []) (0x01 ∷ []) (0x0f ∷ []) tt _ refl)) (
-    more {e = widening} (tt, bytes (0x00 ∷ 0x00 ∷ 0x00 ∷ []) tt, bytes (0x01 ∷ 0x01 ∷ []) tt, omega arith, omega arith)
-    (λ _. (given-in-force _, undamaged-by _ 0b110 (omega arith) tt))
-    (reconfigured 0 (0x00 ∷ 0x06 ∷ 0x06 ∷ []) (reconfigure-by _ _ _ _ _ _ _ (0x09 ∷ []) (0x0f ∷ []) [] tt _ refl)) done)))))))))))))))))))
+    more {e = rearrangement} ((tt, tt), bytes (0x00 ∷ 0x00 ∷ 0x00 ∷ []) tt, words (9 ∷ 9 ∷ 9 ∷ []) tt, bytes (0x09 ∷ []) tt, omega arith, omega arith)
+    (λ _. (given-in-force _, record { undamaged = undamaged-by _ 0b110 (omega arith) tt; closed = over-closed }))
+    (reconfigured 0 (0xaa ∷ 0x2e ∷ 0x28 ∷ []) (2 ∷ 2 ∷ 2 ∷ []) (reconfigure-by _ _ _ _ _ _ _ _ _ (0x07 ∷ []) (0x01 ∷ []) (0x0f ∷ []) tt _ _ refl refl)) (
+    more {e = widening} ((tt, tt), bytes (0x00 ∷ 0x00 ∷ 0x00 ∷ []) tt, words (0 ∷ 0 ∷ 0 ∷ []) tt, bytes (0x01 ∷ 0x01 ∷ []) tt, omega arith, omega arith)
+    (λ _. (given-in-force _, record { undamaged = undamaged-by _ 0b110 (omega arith) tt; closed = over-closed }))
+    (reconfigured 0 (0x00 ∷ 0x06 ∷ 0x06 ∷ []) (2 ∷ 2 ∷ 2 ∷ []) (reconfigure-by _ _ _ _ _ _ _ _ _ (0x09 ∷ []) (0x0f ∷ []) [] tt _ _ refl refl)) done)))))))))))))))
 
-second-run : Run wide widened second left machine
+third-run : Run wide widened third left machine
 unfolding decodeGate updateGate repairGate reconfigureGate checkGate damageGate firstNo slackParts working
-    has size ones within disjoint count lowest cell blocks tabulate block point evaluate sum add mul pow damagedWord plus
-second-run =
-    more {e = sparing} (tt, bytes (0x00 ∷ 0x00 ∷ 0x00 ∷ []) tt, bytes (0x07 ∷ []) tt, omega arith, omega arith)
-    (λ _. (given-in-force _, undamaged-by _ 0b011 (omega arith) tt))
-    (reconfigured 0 (0x07 ∷ 0x0e ∷ 0x09 ∷ []) (reconfigure-by _ _ _ _ _ _ _ (0x01 ∷ 0x01 ∷ []) [] [] tt _ refl)) (
-    more {e = spare-check} tt (λ _. given-in-force _) (checked Agrees refl (check-by _ _ (0x07 ∷ []) [] tt)) (
+    has size ones within disjoint count lowest highest cell blocks tabulate block point evaluate sum add mul pow damagedWord plus
+third-run =
+    more {e = sparing} ((tt, tt), bytes (0x00 ∷ 0x00 ∷ 0x00 ∷ []) tt, words (0 ∷ 0 ∷ 0 ∷ []) tt, bytes (0x07 ∷ []) tt, omega arith, omega arith)
+    (λ _. (given-in-force _, record { undamaged = undamaged-by _ 0b011 (omega arith) tt; closed = over-closed }))
+    (reconfigured 0 (0x07 ∷ 0x0e ∷ 0x09 ∷ []) (2 ∷ 2 ∷ 2 ∷ []) (reconfigure-by _ _ _ _ _ _ _ _ _ (0x01 ∷ 0x01 ∷ []) [] [] tt _ _ refl refl)) (
+    more {e = spare-check} (tt, tt) (λ _. record-in-force _) (checked Agrees refl (check-by _ _ (0x07 ∷ []) [] tt)) (
     more {e = third-blow} (bytes (0xff ∷ []) tt) (λ _. tt) (damaged refl) (
-    more {e = spare-rebuild} (tt, omega arith, omega arith) (λ _. (given-in-force _, undamaged-by _ 0b011 (omega arith) tt))
-    (repaired 0 (0x07 ∷ 0x0e ∷ 0x09 ∷ []) (repair-by _ _ _ _ _ (0x07 ∷ []) [] tt)) (
+    more {e = spare-rebuild} ((tt, tt), omega arith, omega arith)
+    (λ _. (given-in-force _, record { undamaged = undamaged-by _ 0b011 (omega arith) tt; closed = over-closed }))
+    (repaired 0 (0x07 ∷ 0x0e ∷ 0x09 ∷ []) (2 ∷ 2 ∷ 2 ∷ []) (repair-by _ _ _ _ _ _ _ (0x07 ∷ []) [] tt)) (
     more {e = fourth-blow} (bytes (0xff ∷ []) tt) (λ _. tt) (damaged refl) (
-    more {e = spare-reading} (tt, bytes (0x00 ∷ []) tt, omega arith) (λ _. given-in-force _) (decoded 0 (0xf1 ∷ []) (decode-by _ _ _ _ [] tt _ refl)) (
-    more {e = spare-rearrangement} (tt, bytes (0x00 ∷ 0x00 ∷ 0x00 ∷ []) tt, bytes (0x05 ∷ []) tt, omega arith, omega arith)
-    (λ _. (given-in-force _, undamaged-by _ 0b101 (omega arith) tt))
-    (reconfigured 0 (0x07 ∷ 0x02 ∷ 0x05 ∷ []) (reconfigure-by _ _ _ _ _ _ _ (0x07 ∷ []) [] (0x02 ∷ []) tt _ refl)) (
-    more {e = spare-change} (tt, bytes (0x05 ∷ []) tt, omega arith) (λ _. given-in-force _)
-    (updated 0 (0x01 ∷ 0x04 ∷ 0x05 ∷ []) (update-by _ _ _ _ _ (0x03 ∷ []) tt)) done)))))))
+    more {e = spare-reading} ((tt, tt), bytes (0x00 ∷ []) tt, omega arith) (λ _. record-in-force _)
+    (decoded 0 (0xf1 ∷ []) (decode-by _ _ _ _ [] tt _ refl)) (
+    more {e = spare-rearrangement} ((tt, tt), bytes (0x00 ∷ 0x00 ∷ 0x00 ∷ []) tt, words (0 ∷ 0 ∷ 0 ∷ []) tt, bytes (0x05 ∷ []) tt, omega arith, omega arith)
+    (λ _. (given-in-force _, record { undamaged = undamaged-by _ 0b101 (omega arith) tt; closed = over-closed }))
+    (reconfigured 0 (0x07 ∷ 0x02 ∷ 0x05 ∷ []) (2 ∷ 2 ∷ 2 ∷ []) (reconfigure-by _ _ _ _ _ _ _ _ _ (0x07 ∷ []) [] (0x02 ∷ []) tt _ _ refl refl)) (
+    more {e = late-send} ((tt, tt), bytes (0x05 ∷ []) tt, omega arith, omega arith, omega arith)
+    (λ _. (
+      given-in-force _,
+      record { same = λ _. (refl, refl); higher = λ e. absurd (true≢false e); alone = λ e. absurd (true≢false e) },
+    ))
+    (updated 0 (0x07 ∷ 0x02 ∷ 0x05 ∷ []) (2 ∷ 2 ∷ 2 ∷ []) (update-by _ _ _ _ _ _ _ _ _ (0x03 ∷ []) tt)) (
+    more {e = spare-change} ((tt, tt), bytes (0x05 ∷ []) tt, omega arith, omega arith, omega arith)
+    (λ _. (
+      given-in-force _,
+      record { same = λ e. absurd (true≢false (sym e)); higher = λ _ s e. late-low s e; alone = λ _. late-closed },
+    ))
+    (updated 0 (0x01 ∷ 0x04 ∷ 0x05 ∷ []) (3 ∷ 3 ∷ 2 ∷ []) (update-by _ _ _ _ _ _ _ _ _ (0x03 ∷ []) tt)) done))))))))
 
 -- one list after another
 followed : {h h′ h″ : Held} {m m′ m″ : Machine} {es es′ : List Event} → Run h m es h′ m′ → Run h′ m′ es′ h″ m″ → Run h m (es ++ es′) h″ m″
@@ -261,11 +387,20 @@ example =
       message = 0x07 ∷ [];
       slack = 0x01 ∷ [];
       buffer = 0xff ∷ 0xff ∷ 0xff ∷ [];
+      numbers = 7 ∷ 7 ∷ 7 ∷ [];
       codeword = 0x06 ∷ 0x0a ∷ 0x0c ∷ [];
-      typed = (bytes (0x07 ∷ []) tt, bytes (0x01 ∷ []) tt, bytes (0xff ∷ 0xff ∷ 0xff ∷ []) tt);
-      opening = encode-by _ _ _ _ tt _ refl;
-      run = followed first-run second-run;
+      serials = 0 ∷ 0 ∷ 0 ∷ [];
+      typed = (bytes (0x07 ∷ []) tt, bytes (0x01 ∷ []) tt, bytes (0xff ∷ 0xff ∷ 0xff ∷ []) tt, words (7 ∷ 7 ∷ 7 ∷ []) tt);
+      opening = encode-by _ _ _ _ _ tt _ _ refl refl;
+      run = followed first-run (followed second-run third-run);
     }
+
+-- its changes are all closed
+example-closed : Closed (machine .sends)
+unfolding has
+example-closed =
+    closed-by (machine .sends .sent) (machine .sends .to) (machine .sends .reached) 4
+    (λ s. sent-more 3 tt (sent-more 2 tt (sent-more 2 tt (sent-more 1 tt (sent-more 1 tt sent-none))))) tt
 
 -- .. after which the nodes read 00, by what decode means, ..
 pub example-reading : Reading left machine (0x00 ∷ [])
@@ -275,7 +410,7 @@ example-reading =
       from = 0b111;
       buffer = 0xff ∷ [];
       accepted = decode-by _ _ _ _ (0x01 ∷ []) tt _ refl;
-      undamaged = undamaged-by _ 0b111 (omega arith) tt;
+      readable = record { undamaged = undamaged-by _ 0b111 (omega arith) tt; closed = example-closed };
     }
 
 -- .. and by the ledger: every reading there gives this byte.

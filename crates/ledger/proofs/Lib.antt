@@ -1,4 +1,6 @@
 pub mod Sound
+pub mod Stamps
+pub mod Finishing
 pub mod Invariant
 pub mod Demand3
 pub mod Demands

@@ -28,6 +28,13 @@ pub record Sound (a : Params) (codeword ledger : List ℕ) (damaged : ℕ → Bo
   pub pair : Pair a ledger slack
   pub holds : (j p : ℕ) → j < a .n → damaged (suc j) ≡ false → p < a .b → cell (a .b) codeword j p ≡ block a ledger slack (suc j) p
 
+-- What is known of a record is told by its blocks.
+pub sound-cells : (a : Params) (ledger : List ℕ) (damaged : ℕ → Bool) (codeword codeword′ : List ℕ)
+    → ((j p : ℕ) → j < a .n → p < a .b → cell (a .b) codeword′ j p ≡ cell (a .b) codeword j p) → Sound a codeword ledger damaged
+    → Sound a codeword′ ledger damaged
+sound-cells a ledger damaged codeword codeword′ same s =
+    record { slack = s .slack; pair = s .pair; holds = λ j p hj d hp. same j p hj hp ∙ s .holds j p hj d hp }
+
 -- After a set-up every block is the pair's.
 pub encode-sound : (a : Params) (x v codeword : List ℕ) → Pair a x v → Encoded a x v codeword → Sound a codeword x (λ i. false)
 encode-sound a x v codeword pair e = record { slack = v; pair = pair; holds = λ j p hj d hp. e .holds j p hj hp }
@@ -38,7 +45,7 @@ module _ (a : Params) (codeword ledger : List ℕ) (damaged : ℕ → Bool) (i :
   undamaged-gives from u = record { pair = i .pair; equal = λ j p hj s hp. sym (i .holds j p hj (u (suc j) s) hp) }
 
   -- A sum of pairs is a pair of sums; outside W the change is 00.
-  pub update-sound : (d : List ℕ) (to : ℕ) (new : List ℕ) → Parts (a .b) (a .k) d → Updated a codeword d to new
+  pub update-sound : (d : List ℕ) (to : ℕ) (new : List ℕ) → Parts (a .b) (a .k) d → Updated a codeword d to (has to) new
       → Sound a new (plus ledger d) damaged
   update-sound d to new message u =
       record {

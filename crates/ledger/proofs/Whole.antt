@@ -1,17 +1,17 @@
--- Lists are not empty talk: every list leaves valid parameters and a record of n·b bytes, and from there each event has exactly one step. The calls' posts
--- are met by exactly one result (the code's Determined.antt), and every byte that they write is a byte. Assumes nothing.
+-- Lists are not empty talk: every list leaves valid parameters, a record of n·b bytes and n serials, and from there each event has exactly one step. The calls'
+-- posts are met by exactly one result (the code's Determined.antt), every byte that they write is a byte and every serial a serial. Assumes nothing.
 use mathlib.Core.Path.{_≡_, refl, sym, ap, ap₂, _∙_, subst}
 use mathlib.Core.Logic.{⊎-elim}
 use mathlib.Core.Bool.{Bool, true, false, cond}
 use mathlib.Core.List.{List}
-use Prim.Native.Nat.{ℕ, zero, suc, _*_, _/_, _%_, _<_}
+use Prim.Native.Nat.{ℕ, zero, suc, _*_, _/_, _%_, _^_, _<_}
 use native.Mathlib.Nat.{div-add-mod', div-lt-iff-lt-mul, mod-lt}
 use native.Mathlib.Omega.{arith}
 use lib.Dec.{eqb}
-use lib.ListN.{length, getD, List·getD-eq-default}
+use lib.ListN.{length, getD, length-replicate, List·getD-eq-default}
 use Rattle.base.specs.Seq.{cell}
 use Rattle.base.proofs.Cases.{lt-or, eq-or}
-use Rattle.base.proofs.Seq.{length-blocks}
+use Rattle.base.proofs.Seq.{length-blocks, zeros-at}
 use Rattle.field.specs.Field.{IsByte, Bytes}
 use Rattle.field.proofs.Addition.{add-byte}
 use Rattle.field.proofs.Bytes.{bytes-blocks, cell-byte}
@@ -22,20 +22,24 @@ use Rattle.gates.specs.Valid.{Valid}
 use Rattle.params.specs.declared.Params.{Params}
 use Rattle.params.specs.declared.Shape.{Shape}
 use Rattle.gates.proofs.Valid.{encode-accepted, update-accepted, repair-accepted, reconfigure-accepted}
-use Rattle.code.specs.Calls.{Post, EncodePost, DecodePost, UpdatePost, RepairPost, ReconfigurePost, writes}
+use Rattle.serials.specs.Serials.{Words, takes, highest, Stamped}
+use Rattle.serials.proofs.Laws.{highest-words, stamped-words}
+use Rattle.code.specs.Calls.{Post, Unwritten, EncodePost, DecodePost, UpdatePost, RepairPost, ReconfigurePost, writes}
 use Rattle.code.proofs.Additivity.{block-byte}
 use Rattle.code.proofs.Determined.{encode-met, encode-once, decode-met, delta-met, update-met, update-once, repair-met, repair-once, reconfigure-met, reconfigure-once, check-met, view-met}
-use Rattle.ledger.specs.Ledger.{Held, Machine, Lent, held, other, withCodeword, Given, encode, update, repair, reconfigure, decode, delta, check, view}
-use Rattle.ledger.specs.Ledger.{Event, call, damage, bytesLent, bytesLeft, lent, wrote, moved, damagedWord, damagedHeld, Step, encoded, updated}
-use Rattle.ledger.specs.Ledger.{repaired, reconfigured, decoded, differed, checked, viewed, damaged, LentBytes, GivenBytes, Typed, Run, done, more}
-use Rattle.ledger.specs.Ledger.{History, Undamaged, Reading}
+use Rattle.ledger.specs.Ledger.{Held, Machine, Lent, held, other, Given, encode, update, repair, reconfigure, decode, delta, check, view}
+use Rattle.ledger.specs.Ledger.{Event, call, damage, bytesLent, bytesLeft, lent, serialsLent, wrote, moved, damagedWord, damagedHeld}
+use Rattle.ledger.specs.Ledger.{Step, encoded, updated, repaired, reconfigured, decoded, differed, checked, viewed, damaged}
+use Rattle.ledger.specs.Ledger.{LentAs, GivenTyped, Typed, Run, done, more, History, Readable, Reading}
 
 pub record Whole (h : Held) : Type 0 where
   pub valid : Valid (h .params)
   pub length-is : length (h .codeword) ≡ h .params .n * h .params .b
   pub bytes : Bytes (h .codeword)
+  pub serials-length : length (h .serials) ≡ h .params .n
+  pub words : Words (h .serials)
 
--- ---- what the calls write: as many bytes as there were
+-- ---- what the calls write: as many bytes and serials as there were
 
 -- a list whose cells are bytes
 cells-bytes : (b n : ℕ) (l : List ℕ) → 0 < b → length l ≡ n * b → ((j p : ℕ) → j < n → p < b → IsByte (cell b l j p)) → Bytes l
@@ -57,71 +61,113 @@ split-bytes b n S l hb e f g = cells-bytes b n l hb e (λ j p hj hp. go j p hj h
     go j p hj hp true s = f j p hj s hp
     go j p hj hp false s = g j p hj s hp
 
--- a buffer of bytes that keeps its length
-abbrev Kept : List ℕ → List ℕ → Type 0
-Kept old new = (length new ≡ length old) × Bytes new
+-- a buffer that keeps its length, and what its numbers are
+abbrev Kept : (List ℕ → Type 0) → List ℕ → List ℕ → Type 0
+Kept P old new = (length new ≡ length old) × P new
+
+-- a buffer of bytes and one of serials
+abbrev BothKept : List ℕ → List ℕ → List ℕ → List ℕ → Type 0
+BothKept old serials new serials′ = Kept Bytes old new × Kept Words serials serials′
 
 by-post : {gate answer : ℕ} {A B C : Type 0} → (gate ≡ 0 → A → C) → (B → C) → Post gate answer A B → C
 by-post {gate} f g t = ⊎-elim (λ z. f z (t .served (t .number ∙ z))) (λ ne. g (t .refused (λ z. ne (sym (t .number) ∙ z)))) (eq-or gate 0)
 
-same-kept : (old new : List ℕ) → Bytes old → new ≡ old → Kept old new
-same-kept old new h e = subst (Kept old) (sym e) (refl, h)
+same-kept : (P : List ℕ → Type 0) (old new : List ℕ) → P old → new ≡ old → Kept P old new
+same-kept P old new h e = subst (Kept P old) (sym e) (refl, h)
 
-encode-kept : (a : Params) (x v old : List ℕ) (answer : ℕ) (new : List ℕ) → Bytes old → EncodePost a x v old answer new → Kept old new
-encode-kept a x v old answer new h =
-    by-post
-    (λ z e.
-    let g = encode-accepted a _ _ _ .0 z in (
-      e .length-is ∙ sym (g .codeword-length),
-      cells-bytes (a .b) (a .n) new (g .valid .b-low) (e .length-is) (λ j p hj hp. subst IsByte (sym (e .holds j p hj hp)) (block-byte a x v (suc j) p)),
-    ))
-    (same-kept old new h)
+unwritten-kept : (old serials new serials′ : List ℕ) → Bytes old → Words serials → Unwritten old serials new serials′ → BothKept old serials new serials′
+unwritten-kept old serials new serials′ h w u = (same-kept Bytes old new h (u .0), same-kept Words serials serials′ w (u .1))
 
-update-kept : (a : Params) (d : List ℕ) (to : ℕ) (old : List ℕ) (answer : ℕ) (new : List ℕ) → Bytes old → UpdatePost a d to old answer new → Kept old new
-update-kept a d to old answer new h =
-    by-post
-    (λ z u.
-    let g = update-accepted a _ _ _ .0 z in (
-      u .length-is ∙ sym (g .codeword-length),
-      split-bytes (a .b) (a .n) (has to) new (g .valid .b-low) (u .length-is)
-          (λ j p hj s hp. subst IsByte (sym (u .added j p hj s hp)) (add-byte _ _ (cell-byte (a .b) old j p h) (block-byte a d (u .slack) (suc j) p)))
-          (λ j p hj s hp. subst IsByte (sym (u .kept j p hj s hp)) (cell-byte (a .b) old j p h)),
-    ))
-    (same-kept old new h)
+-- serials that some nodes took
+stamped-kept : (n : ℕ) (f : ℕ → Bool) (serial : ℕ) (old new : List ℕ) → length old ≡ n → serial < 2 ^ 32 → Words old → Stamped n f serial old new
+    → Kept Words old new
+stamped-kept n f serial old new e hs w s = (s .length-is ∙ sym e, stamped-words hs w s)
 
-repair-kept : (a : Params) (from lost : ℕ) (old : List ℕ) (answer : ℕ) (new : List ℕ) → Bytes old → RepairPost a from lost old answer new → Kept old new
-repair-kept a from lost old answer new h =
-    by-post
-    (λ z r.
-    let g = repair-accepted a _ _ _ .0 z in (
-      r .length-is ∙ sym (g .codeword-length),
-      split-bytes (a .b) (a .n) (has lost) new (g .valid .b-low) (r .length-is)
-          (λ j p hj s hp. subst IsByte (sym (r .rebuilt j p hj s hp)) (block-byte a (r .message) (r .slack) (suc j) p))
-          (λ j p hj s hp. subst IsByte (sym (r .kept j p hj s hp)) (cell-byte (a .b) old j p h)),
-    ))
-    (same-kept old new h)
+module _ (a : Params) (x v old serials : List ℕ) (answer : ℕ) (new serials′ : List ℕ) where
+  encode-kept : Bytes old → Words serials → EncodePost a x v old serials answer new serials′ → BothKept old serials new serials′
+  encode-kept h w =
+      by-post
+      (λ z s.
+      let g = encode-accepted a _ _ _ _ .0 z in
+      let e = s .0 in (
+        (
+          e .length-is ∙ sym (g .codeword-length),
+          cells-bytes (a .b) (a .n) new (g .valid .b-low) (e .length-is) (λ j p hj hp. subst IsByte (sym (e .holds j p hj hp)) (block-byte a x v (suc j) p)),
+        ),
+        (
+          ap length (s .1) ∙ length-replicate {A = ℕ} (a .n) 0 ∙ sym (g .serials-length),
+          subst Words (sym (s .1)) (λ j. omega (arith, zeros-at (a .n) j)),
+        ),
+      ))
+      (unwritten-kept old serials new serials′ h w)
+
+module _ (a : Params) (d : List ℕ) (to serial reached : ℕ) (old serials : List ℕ) (answer : ℕ) (new serials′ : List ℕ) where
+  update-kept : serial < 2 ^ 32 → Bytes old → Words serials → UpdatePost a d to serial reached old serials answer new serials′
+      → BothKept old serials new serials′
+  update-kept hs h w =
+      by-post
+      (λ z s.
+      let g = update-accepted a _ _ _ _ _ .0 z in
+      let u = s .0 in (
+        (
+          u .length-is ∙ sym (g .codeword-length),
+          split-bytes (a .b) (a .n) (takes to reached serials serial) new (g .valid .b-low) (u .length-is)
+              (λ j p hj s hp. subst IsByte (sym (u .added j p hj s hp)) (add-byte _ _ (cell-byte (a .b) old j p h) (block-byte a d (u .slack) (suc j) p)))
+              (λ j p hj s hp. subst IsByte (sym (u .kept j p hj s hp)) (cell-byte (a .b) old j p h)),
+        ),
+        stamped-kept (a .n) (takes to reached serials serial) serial serials serials′ (g .serials-length) hs w (s .1),
+      ))
+      (unwritten-kept old serials new serials′ h w)
+
+module _ (a : Params) (from lost : ℕ) (old serials : List ℕ) (answer : ℕ) (new serials′ : List ℕ) where
+  repair-kept : Bytes old → Words serials → RepairPost a from lost old serials answer new serials′ → BothKept old serials new serials′
+  repair-kept h w =
+      by-post
+      (λ z s.
+      let g = repair-accepted a _ _ _ _ .0 z in
+      let r = s .0 in (
+        (
+          r .length-is ∙ sym (g .codeword-length),
+          split-bytes (a .b) (a .n) (has lost) new (g .valid .b-low) (r .length-is)
+              (λ j p hj s hp. subst IsByte (sym (r .rebuilt j p hj s hp)) (block-byte a (r .message) (r .slack) (suc j) p))
+              (λ j p hj s hp. subst IsByte (sym (r .kept j p hj s hp)) (cell-byte (a .b) old j p h)),
+        ),
+        stamped-kept (a .n) (has lost) (highest (has from) serials (a .n)) serials serials′ (g .serials-length) (highest-words (has from) serials (a .n) w) w
+            (s .1),
+      ))
+      (unwritten-kept old serials new serials′ h w)
 
 -- ---- every step leaves a whole state
 
-bytes-lent : (own : List ℕ) (l : Lent) → Bytes own → LentBytes l → Bytes (bytesLent own l)
-bytes-lent own held w t = w
-bytes-lent own (other bytes) w t = t
+-- what a buffer lent holds, and what is left of the list's own
+lent-as : (P : List ℕ → Type 0) (own : List ℕ) (l : Lent) → P own → LentAs P l → P (bytesLent own l)
+lent-as P own held w t = w
+lent-as P own (other numbers) w t = t
 
-lent-bytes : (h : Held) (g : Given) → Whole h → GivenBytes g → Bytes (lent h g)
-lent-bytes h g w = bytes-lent (h .codeword) (g .codeword) (w .bytes)
+left-kept : (P : List ℕ → Type 0) (own : List ℕ) (l : Lent) (new : List ℕ) → P own → Kept P (bytesLent own l) new → Kept P own (bytesLeft own l new)
+left-kept P own held new w k = k
+left-kept P own (other numbers) new w k = (refl, w)
 
-wrote-whole : (h : Held) (g : Given) (new : List ℕ) → Whole h → Kept (lent h g) new → Whole (wrote h g new)
-wrote-whole h g new w = go (g .codeword)
-  where
-    go : (l : Lent) → Kept (bytesLent (h .codeword) l) new → Whole (withCodeword (bytesLeft (h .codeword) l new) h)
-    go held k = record { valid = w .valid; length-is = k .0 ∙ w .length-is; bytes = k .1 }
-    go (other bytes) k = w
+module _ (h : Held) (g : Given) (w : Whole h) where
+  lent-bytes : GivenTyped g → Bytes (lent h g)
+  lent-bytes t = lent-as Bytes (h .codeword) (g .codeword) (w .bytes) (t .0)
 
-moved-whole : (h : Held) (a : Params) (t : Shape) (old : List ℕ) (from to : ℕ) (x buffer : List ℕ) (answer : ℕ) (new : List ℕ) → Whole h → Bytes old
-    → ReconfigurePost a t old from to x buffer answer new → Whole (moved answer h a t new)
-moved-whole h a t old from to x buffer zero new w ho post =
-    let g = reconfigure-accepted a t _ _ _ _ _ .0 (sym (post .number)) in
-    let r = post .served refl in
+  lent-words : GivenTyped g → Words (serialsLent h g)
+  lent-words t = lent-as Words (h .serials) (g .serials) (w .words) (t .1)
+
+  wrote-whole : (new serials : List ℕ) → BothKept (lent h g) (serialsLent h g) new serials → Whole (wrote h g new serials)
+  wrote-whole new serials k =
+      let c = left-kept Bytes (h .codeword) (g .codeword) new (w .bytes) (k .0) in
+      let s = left-kept Words (h .serials) (g .serials) serials (w .words) (k .1) in
+      record { valid = w .valid; length-is = c .0 ∙ w .length-is; bytes = c .1; serials-length = s .0 ∙ w .serials-length; words = s .1 }
+
+moved-whole : (h : Held) (a : Params) (t : Shape) (old serials : List ℕ) (from to : ℕ) (x buffer numbers : List ℕ) (answer : ℕ) (new serials′ : List ℕ)
+    → Whole h → Bytes old → Words serials → ReconfigurePost a t old serials from to x buffer numbers answer new serials′
+    → Whole (moved answer h a t new serials′)
+moved-whole h a t old serials from to x buffer numbers zero new serials′ w ho hs post =
+    let g = reconfigure-accepted a t _ _ _ _ _ _ _ .0 (sym (post .number)) in
+    let r = post .served refl .0 in
+    let s = post .served refl .1 in
     record {
       valid = g .valid-new;
       length-is = r .length-is;
@@ -129,8 +175,10 @@ moved-whole h a t old from to x buffer zero new w ho post =
           split-bytes (a .b) (t .n) (writes a to) new (g .valid .b-low) (r .length-is)
           (λ j p hj s hp. subst IsByte (sym (r .written j p hj s hp)) (block-byte (reshaped a t) x (r .slack) (suc j) p))
           (λ j p hj s hp. subst IsByte (sym (r .copied j p hj s hp)) (cell-byte (a .b) old j p ho));
+      serials-length = s .length-is;
+      words = stamped-words (highest-words (has from) serials (a .n) hs) hs s;
     }
-moved-whole h a t old from to x buffer (suc q) new w ho post = w
+moved-whole h a t old serials from to x buffer numbers (suc q) new serials′ w ho hs post = w
 
 chosen-byte : (b : Bool) (x y : ℕ) → IsByte x → IsByte y → IsByte (cond b x y)
 chosen-byte true x y hx hy = hx
@@ -145,18 +193,21 @@ damaged-whole zero h node bytes w t =
       bytes =
           bytes-blocks (h .params .b) (h .params .n) _
           (λ j p. chosen-byte (eqb (suc j) node) _ _ (t p) (cell-byte (h .params .b) (h .codeword) j p (w .bytes)));
+      serials-length = w .serials-length;
+      words = w .words;
     }
 damaged-whole (suc q) h node bytes w t = w
 
 pub step-whole : (h : Held) {h′ : Held} {q : ℕ} (e : Event) → Whole h → Typed e → Step h e q h′ → Whole h′
-step-whole h (call g (encode x v)) w t (encoded answer new post) =
-    wrote-whole h g new w (encode-kept (g .params) x v _ answer new (lent-bytes h g w (t .0)) post)
-step-whole h (call g (update d to)) w t (updated answer new post) =
-    wrote-whole h g new w (update-kept (g .params) d to _ answer new (lent-bytes h g w (t .0)) post)
-step-whole h (call g (repair from lost)) w t (repaired answer new post) =
-    wrote-whole h g new w (repair-kept (g .params) from lost _ answer new (lent-bytes h g w (t .0)) post)
-step-whole h (call g (reconfigure t buffer x from to)) w ty (reconfigured answer new post) =
-    moved-whole h (g .params) t _ from to x buffer answer new w (lent-bytes h g w (ty .0)) post
+step-whole h (call g (encode x v)) w t (encoded answer new serials post) =
+    wrote-whole h g w new serials (encode-kept (g .params) x v _ _ answer new serials (lent-bytes h g w (t .0)) (lent-words h g w (t .0)) post)
+step-whole h (call g (update d to serial reached)) w t (updated answer new serials post) =
+    wrote-whole h g w new serials
+    (update-kept (g .params) d to serial reached _ _ answer new serials (t .3) (lent-bytes h g w (t .0)) (lent-words h g w (t .0)) post)
+step-whole h (call g (repair from lost)) w t (repaired answer new serials post) =
+    wrote-whole h g w new serials (repair-kept (g .params) from lost _ _ answer new serials (lent-bytes h g w (t .0)) (lent-words h g w (t .0)) post)
+step-whole h (call g (reconfigure t buffer numbers x from to)) w ty (reconfigured answer new serials post) =
+    moved-whole h (g .params) t _ _ from to x buffer numbers answer new serials w (lent-bytes h g w (ty .0)) (lent-words h g w (ty .0)) post
 step-whole h (call g (decode buffer from)) w t (decoded answer out post) = w
 step-whole h (call g (delta d buffer to)) w t (differed answer out post) = w
 step-whole h (call g check) w t (checked verdict e post) = w
@@ -170,19 +221,31 @@ run-whole w (more {h = h} {e = e} ty al st rest) = run-whole (step-whole h e w t
 -- Every list leaves a whole state.
 pub history-whole : {events : List Event} {h : Held} {m : Machine} → History events h m → Whole h
 history-whole y =
-    let g = encode-accepted (y .params) _ _ _ .0 (sym (y .opening .number)) in
-    let k = encode-kept (y .params) (y .message) (y .slack) (y .buffer) 0 (y .codeword) (y .typed .2) (y .opening) in
-    run-whole (record { valid = g .valid; length-is = k .0 ∙ g .codeword-length; bytes = k .1 }) (y .run)
+    let g = encode-accepted (y .params) _ _ _ _ .0 (sym (y .opening .number)) in
+    let k =
+    encode-kept (y .params) (y .message) (y .slack) (y .buffer) (y .numbers) 0 (y .codeword) (y .serials) (y .typed .2) (y .typed .3) (y .opening) in
+    run-whole
+    (record {
+      valid = g .valid;
+      length-is = k .0 .0 ∙ g .codeword-length;
+      bytes = k .0 .1;
+      serials-length = k .1 .0 ∙ g .serials-length;
+      words = k .1 .1;
+    })
+    (y .run)
 
 -- ---- from a whole state each event has a step, and only one
 
 pub step-exists : (h : Held) (e : Event) → Whole h → Typed e → (q : ℕ) × (h′ : Held) × Step h e q h′
-step-exists h (call g (encode x v)) w t = let m = encode-met (g .params) x v (lent h g) in (_, _, encoded (m .0) (m .1) (m .2))
-step-exists h (call g (update d to)) w t = let m = update-met (g .params) d to (lent h g) in (_, _, updated (m .0) (m .1) (m .2))
+step-exists h (call g (encode x v)) w t =
+    let m = encode-met (g .params) x v (lent h g) (serialsLent h g) in (_, _, encoded (m .0) (m .1) (m .2) (m .3))
+step-exists h (call g (update d to serial reached)) w t =
+    let m = update-met (g .params) d to serial reached (lent h g) (serialsLent h g) in (_, _, updated (m .0) (m .1) (m .2) (m .3))
 step-exists h (call g (repair from lost)) w t =
-    let m = repair-met (g .params) from lost (lent h g) (lent-bytes h g w (t .0)) in (_, _, repaired (m .0) (m .1) (m .2))
-step-exists h (call g (reconfigure s buffer x from to)) w t =
-    let m = reconfigure-met (g .params) s (lent h g) from to x buffer (lent-bytes h g w (t .0)) (t .2) in (_, _, reconfigured (m .0) (m .1) (m .2))
+    let m = repair-met (g .params) from lost (lent h g) (serialsLent h g) (lent-bytes h g w (t .0)) in (_, _, repaired (m .0) (m .1) (m .2) (m .3))
+step-exists h (call g (reconfigure s buffer numbers x from to)) w t =
+    let m = reconfigure-met (g .params) s (lent h g) (serialsLent h g) from to x buffer numbers (lent-bytes h g w (t .0)) (t .3) in
+    (_, _, reconfigured (m .0) (m .1) (m .2) (m .3))
 step-exists h (call g (decode buffer from)) w t =
     let m = decode-met (g .params) (lent h g) from buffer (lent-bytes h g w (t .0)) in (_, h, decoded (m .0) (m .1) (m .2))
 step-exists h (call g (delta d buffer to)) w t = let m = delta-met (g .params) d to buffer in (_, h, differed (m .0) (m .1) (m .2))
@@ -191,15 +254,19 @@ step-exists h (call g (view node)) w t = let m = view-met (g .params) (lent h g)
 step-exists h (damage node bytes) w t = (_, _, damaged refl)
 
 pub step-unique : (h : Held) {h′ h″ : Held} {q q′ : ℕ} (e : Event) → Step h e q h′ → Step h e q′ h″ → (q ≡ q′) × (h′ ≡ h″)
-step-unique h (call g (encode x v)) (encoded answer new post) (encoded answer′ new′ post′) =
-    let e = encode-once (g .params) x v (lent h g) answer answer′ new new′ post post′ in (e .0, ap (wrote h g) (e .1))
-step-unique h (call g (update d to)) (updated answer new post) (updated answer′ new′ post′) =
-    let e = update-once (g .params) d to (lent h g) answer answer′ new new′ post post′ in (e .0, ap (wrote h g) (e .1))
-step-unique h (call g (repair from lost)) (repaired answer new post) (repaired answer′ new′ post′) =
-    let e = repair-once (g .params) from lost (lent h g) answer answer′ new new′ post post′ in (e .0, ap (wrote h g) (e .1))
-step-unique h (call g (reconfigure s buffer x from to)) (reconfigured answer new post) (reconfigured answer′ new′ post′) =
-    let e = reconfigure-once (g .params) s (lent h g) from to x buffer answer answer′ new new′ post post′ in
-    (e .0, ap₂ (λ (q : ℕ) (c : List ℕ). moved q h (g .params) s c) (e .0) (e .1))
+step-unique h (call g (encode x v)) (encoded answer new serials post) (encoded answer′ new′ serials′ post′) =
+    let e = encode-once (g .params) x v (lent h g) (serialsLent h g) answer answer′ new new′ serials serials′ post post′ in
+    (e .0, ap₂ (wrote h g) (e .1) (e .2))
+step-unique h (call g (update d to serial reached)) (updated answer new serials post) (updated answer′ new′ serials′ post′) =
+    let e = update-once (g .params) d to serial reached (lent h g) (serialsLent h g) answer answer′ new new′ serials serials′ post post′ in
+    (e .0, ap₂ (wrote h g) (e .1) (e .2))
+step-unique h (call g (repair from lost)) (repaired answer new serials post) (repaired answer′ new′ serials′ post′) =
+    let e = repair-once (g .params) from lost (lent h g) (serialsLent h g) answer answer′ new new′ serials serials′ post post′ in
+    (e .0, ap₂ (wrote h g) (e .1) (e .2))
+step-unique h (call g (reconfigure s buffer numbers x from to)) (reconfigured answer new serials post) (reconfigured answer′ new′ serials′ post′) =
+    let e =
+    reconfigure-once (g .params) s (lent h g) (serialsLent h g) from to x buffer numbers answer answer′ new new′ serials serials′ post post′ in
+    (e .0, ap (λ (q : ℕ). moved q h (g .params) s new serials) (e .0) ∙ ap₂ (moved answer′ h (g .params) s) (e .1) (e .2))
 step-unique h (call g (decode buffer from)) (decoded answer out post) (decoded answer′ out′ post′) = (post .number ∙ sym (post′ .number), refl)
 step-unique h (call g (delta d buffer to)) (differed answer out post) (differed answer′ out′ post′) = (post .number ∙ sym (post′ .number), refl)
 step-unique h (call g check) (checked verdict e post) (checked verdict′ e′ post′) =
@@ -207,9 +274,9 @@ step-unique h (call g check) (checked verdict e post) (checked verdict′ e′ p
 step-unique h (call g (view node)) (viewed part e post) (viewed part′ e′ post′) = (e ∙ sym e′, refl)
 step-unique h (damage node bytes) (damaged e) (damaged e′) = (e ∙ sym e′, ap (λ (q : ℕ). damagedHeld q h node bytes) (e ∙ sym e′))
 
--- After every list each accepted set of undamaged nodes has a reading.
+-- After every list, between closed changes, each accepted set of undamaged nodes has a reading.
 pub reading-exists : {events : List Event} {h : Held} {m : Machine} → History events h m → (from : ℕ) (buffer : List ℕ)
-    → decodeGate (h .params) (length (h .codeword)) (length buffer) from ≡ 0 → Undamaged m from → (out : List ℕ) × Reading h m out
+    → decodeGate (h .params) (length (h .codeword)) (length buffer) from ≡ 0 → Readable m from → (out : List ℕ) × Reading h m out
 reading-exists {h = h} {m = m} y from buffer z u =
     let d = decode-met (h .params) (h .codeword) from buffer (history-whole y .bytes) in (
       d .1,
@@ -217,6 +284,6 @@ reading-exists {h = h} {m = m} y from buffer z u =
         from = from;
         buffer = buffer;
         accepted = subst (λ (q : ℕ). DecodePost (h .params) (h .codeword) from buffer q (d .1)) (d .2 .number ∙ z) (d .2);
-        undamaged = u;
+        readable = u;
       },
     )

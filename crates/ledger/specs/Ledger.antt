@@ -1,5 +1,5 @@
--- "The ledger machine" (document 01): lists of calls and damage, what they do to the record, and what the machine keeps of them. The calls' own definitions
--- and gates are those that the code's contracts cite. Assumes nothing.
+-- "The ledger machine" (document 01; document 02, 2026-03): lists of calls and damage, what they do to the record and the serials beside it, and what the machine
+-- keeps of them. The calls' own definitions and gates are those that the code's contracts cite. Assumes nothing.
 use mathlib.Core.Path.{_≡_}
 use mathlib.Core.Bool.{Bool, true, false, not, _&&_, _||_, cond}
 use mathlib.Core.List.{List, [], _∷_}
@@ -13,65 +13,95 @@ use Rattle.params.specs.Params.{reshaped}
 use Rattle.gates.specs.Gates.{viewGate, damageGate}
 use Rattle.params.specs.declared.Params.{Params}
 use Rattle.params.specs.declared.Shape.{Shape}
+use Rattle.serials.specs.Serials.{Words}
 use Rattle.code.specs.Calls.{EncodePost, DecodePost, DeltaPost, UpdatePost, RepairPost, CheckPost, ViewPost, ReconfigurePost, number}
 use Rattle.code.specs.declared.Verdict.{Verdict}
 
 -- ---- the running system and the machine
 
--- What a list leaves: the parameters in force, and "the record, with all that is kept beside it" (which is nothing yet).
+-- What a list leaves: the parameters in force, and "the record, with all that is kept beside it": the serials, one for each node.
 pub record Held : Type 0 where
   pub params : Params
   pub codeword : List ℕ
+  pub serials : List ℕ
 
 -- what an accepted set-up leaves
-abbrev pub begun : Params → List ℕ → Held
-begun a codeword = record { params = a; codeword = codeword }
+abbrev pub begun : Params → List ℕ → List ℕ → Held
+begun a codeword serials = record { params = a; codeword = codeword; serials = serials }
 
--- what is held, under other parameters or with another record; all else stays
+-- what is held, under other parameters, or with another record and other serials; all else stays
 abbrev pub heldUnder : Params → Held → Held
-heldUnder a h = record { params = a; codeword = h .codeword }
+heldUnder a h = record { params = a; codeword = h .codeword; serials = h .serials }
 
-abbrev pub withCodeword : List ℕ → Held → Held
-withCodeword codeword h = record { params = h .params; codeword = codeword }
+abbrev pub withRecord : List ℕ → List ℕ → Held → Held
+withRecord codeword serials h = record { params = h .params; codeword = codeword; serials = serials }
 
--- "Its state is the arrangement, the ledger bytes and a set of damaged traps; the record is no part of it."
+-- What is kept of the accepted changes, by their serials: whether there was one, its W and its bytes, and the nodes that its sends were to reach.
+pub record Sends : Type 0 where
+  pub sent : ℕ → Bool
+  pub to : ℕ → ℕ
+  pub change : ℕ → List ℕ
+  pub reached : ℕ → ℕ → Bool
+
+abbrev pub noSends : Sends
+noSends = record { sent = λ s. false; to = λ s. 0; change = λ s. []; reached = λ s i. false }
+
+-- one accepted send more
+abbrev pub sending : (change : List ℕ) → (to serial reached : ℕ) → Sends → Sends
+sending d to serial reached k =
+    record {
+      sent = λ s. eqb s serial || k .sent s;
+      to = λ s. cond (eqb s serial) to (k .to s);
+      change = λ s. cond (eqb s serial) d (k .change s);
+      reached = λ s i. (eqb s serial && has reached i) || k .reached s i;
+    }
+
+-- "Its state is the arrangement, the ledger bytes and a set of damaged traps; the record is no part of it." Beside these it keeps the accepted changes, since "A
+-- ledger counts all accepted sends under one serial as one change" (document 02, 2026-03).
 pub record Machine : Type 0 where
   pub params : Params
   pub ledger : List ℕ
   pub damaged : ℕ → Bool
+  pub sends : Sends
 
 -- "An accepted set-up puts its arrangement in force and the message in the ledger and empties the set."
 abbrev pub opened : Params → List ℕ → Machine
-opened a x = record { params = a; ledger = x; damaged = λ i. false }
+opened a x = record { params = a; ledger = x; damaged = λ i. false; sends = noSends }
 
--- the machine under other parameters, with another ledger or another set; all else stays
+-- the machine under other parameters, with another ledger, another set or other changes; all else stays
 abbrev pub machineUnder : Params → Machine → Machine
-machineUnder a m = record { params = a; ledger = m .ledger; damaged = m .damaged }
+machineUnder a m = record { params = a; ledger = m .ledger; damaged = m .damaged; sends = m .sends }
 
 abbrev pub withLedger : List ℕ → Machine → Machine
-withLedger x m = record { params = m .params; ledger = x; damaged = m .damaged }
+withLedger x m = record { params = m .params; ledger = x; damaged = m .damaged; sends = m .sends }
 
 abbrev pub withDamaged : (ℕ → Bool) → Machine → Machine
-withDamaged damaged m = record { params = m .params; ledger = m .ledger; damaged = damaged }
+withDamaged damaged m = record { params = m .params; ledger = m .ledger; damaged = damaged; sends = m .sends }
+
+abbrev pub withSends : Sends → Machine → Machine
+withSends sends m = record { params = m .params; ledger = m .ledger; damaged = m .damaged; sends = sends }
 
 -- ---- events
 
--- A buffer that a call is lent: the one that the list so far has left, or another with any bytes.
+-- A buffer that a call is lent: the one that the list so far has left, or another with any numbers.
 pub data Lent : Type 0 where
   held : Lent
   other : List ℕ → Lent
 
--- What every call is given beside its own arguments: parameters, and the record lent (at which a difference, which is lent none, does not look).
+-- What every call is given beside its own arguments: parameters, and the record and the serials lent. A difference is lent neither, a reading, a check and a view
+-- no serials: they do not look at them.
 pub record Given : Type 0 where
   pub params : Params
   pub codeword : Lent
+  pub serials : Lent
 
--- The calls, each with its own arguments. Buffers that a call fills are given with what they held before.
+-- The calls, each with its own arguments. Buffers that a call fills are given with what they held before: a rearrangement's are for the new record and the new
+-- serials.
 pub data Call : Type 0 where
   encode : (message slack : List ℕ) → Call
-  update : (change : List ℕ) → (to : ℕ) → Call
+  update : (change : List ℕ) → (to serial reached : ℕ) → Call
   repair : (from lost : ℕ) → Call
-  reconfigure : Shape → (buffer message : List ℕ) → (from to : ℕ) → Call
+  reconfigure : Shape → (buffer numbers message : List ℕ) → (from to : ℕ) → Call
   decode : (buffer : List ℕ) → (from : ℕ) → Call
   delta : (change buffer : List ℕ) → (to : ℕ) → Call
   check : Call
@@ -82,18 +112,24 @@ pub data Event : Type 0 where
   call : Given → Call → Event
   damage : (node : ℕ) → (bytes : List ℕ) → Event
 
--- what is in force: the parameters and the record that the list so far has left
+-- what is in force: the parameters, the record and the serials that the list so far has left
 abbrev pub inForce : Held → Given
-inForce h = record { params = h .params; codeword = held }
+inForce h = record { params = h .params; codeword = held; serials = held }
 
--- "an accepted call is given the arrangement in force, and the record .. as the list so far has left them"
-pub record InForce (h : Held) (g : Given) : Type 0 where
+-- "an accepted call is given the arrangement in force, and the record .. as the list so far has left them", ..
+pub record RecordInForce (h : Held) (g : Given) : Type 0 where
   pub params : g .params ≡ h .params
   pub codeword : g .codeword ≡ held
 
+-- .. "with all that is kept beside it", where it is lent that
+pub record InForce (h : Held) (g : Given) : Type 0 where
+  pub params : g .params ≡ h .params
+  pub codeword : g .codeword ≡ held
+  pub serials : g .serials ≡ held
+
 -- ---- what an event does to the record
 
--- The bytes of a buffer lent, where the list has left the given ones, ..
+-- What a buffer lent holds, where the list has left the given numbers, ..
 abbrev pub bytesLent : List ℕ → Lent → List ℕ
 bytesLent own held = own
 bytesLent own (other bytes) = bytes
@@ -103,40 +139,45 @@ abbrev pub bytesLeft : List ℕ → Lent → List ℕ → List ℕ
 bytesLeft own held new = new
 bytesLeft own (other bytes) new = own
 
--- the bytes of the record lent, and what is held when they became others
+-- the record and the serials lent, and what is held when they became others
 abbrev pub lent : Held → Given → List ℕ
 lent h g = bytesLent (h .codeword) (g .codeword)
 
-abbrev pub wrote : Held → Given → List ℕ → Held
-wrote h g new = withCodeword (bytesLeft (h .codeword) (g .codeword) new) h
+abbrev pub serialsLent : Held → Given → List ℕ
+serialsLent h g = bytesLent (h .serials) (g .serials)
 
--- the state after an accepted rearrangement, "the list goes on with the new record", and after a refused one
-abbrev pub moved : ℕ → Held → Params → Shape → List ℕ → Held
-moved zero h a t new = heldUnder (reshaped a t) (withCodeword new h)
-moved (suc q) h a t new = h
+abbrev pub wrote : Held → Given → List ℕ → List ℕ → Held
+wrote h g new serials = withRecord (bytesLeft (h .codeword) (g .codeword) new) (bytesLeft (h .serials) (g .serials) serials) h
+
+-- the state after an accepted rearrangement, "the list goes on with the new record and what is kept beside it", and after a refused one
+abbrev pub moved : ℕ → Held → Params → Shape → List ℕ → List ℕ → Held
+moved zero h a t new serials = heldUnder (reshaped a t) (withRecord new serials h)
+moved (suc q) h a t new serials = h
 
 -- "Damage to trap i replaces its block by given bytes": byte p of the block becomes byte p given (bytes that are not given are 00).
 unfoldable pub damagedWord : Params → List ℕ → ℕ → List ℕ → List ℕ
 damagedWord a codeword i bytes = blocks (a .b) (a .n) (λ j p. cond (eqb (suc j) i) (getD bytes p 0) (cell (a .b) codeword j p))
 
--- a damage event outside 1..n alters nothing
+-- "damage keep[s] theirs": the serials stay. A damage event outside 1..n alters nothing.
 abbrev pub damagedHeld : ℕ → Held → ℕ → List ℕ → Held
-damagedHeld zero h i bytes = withCodeword (damagedWord (h .params) (h .codeword) i bytes) h
+damagedHeld zero h i bytes = withRecord (damagedWord (h .params) (h .codeword) i bytes) (h .serials) h
 damagedHeld (suc q) h i bytes = h
 
 -- One step: the call's post-condition, the very one of its contract, on what it is lent; its answer; and what is then held. An encode within a list (which is
 -- refused) writes to the record lent like an update; reading, difference, check and view have buffers and answers of their own. A check answers its verdict's
 -- number, a view's number is that of its second call, and "a damage event puts only 10".
 pub data Step (h : Held) : Event → ℕ → Held → Type 0 where
-  encoded : {g : Given} {x v : List ℕ} (answer : ℕ) (new : List ℕ)
-      → EncodePost (g .params) x v (lent h g) answer new → Step h (call g (encode x v)) answer (wrote h g new)
-  updated : {g : Given} {d : List ℕ} {to : ℕ} (answer : ℕ) (new : List ℕ)
-      → UpdatePost (g .params) d to (lent h g) answer new → Step h (call g (update d to)) answer (wrote h g new)
-  repaired : {g : Given} {from lost : ℕ} (answer : ℕ) (new : List ℕ)
-      → RepairPost (g .params) from lost (lent h g) answer new → Step h (call g (repair from lost)) answer (wrote h g new)
-  reconfigured : {g : Given} {t : Shape} {buffer x : List ℕ} {from to : ℕ} (answer : ℕ) (new : List ℕ)
-      → ReconfigurePost (g .params) t (lent h g) from to x buffer answer new
-      → Step h (call g (reconfigure t buffer x from to)) answer (moved answer h (g .params) t new)
+  encoded : {g : Given} {x v : List ℕ} (answer : ℕ) (new serials : List ℕ)
+      → EncodePost (g .params) x v (lent h g) (serialsLent h g) answer new serials → Step h (call g (encode x v)) answer (wrote h g new serials)
+  updated : {g : Given} {d : List ℕ} {to serial reached : ℕ} (answer : ℕ) (new serials : List ℕ)
+      → UpdatePost (g .params) d to serial reached (lent h g) (serialsLent h g) answer new serials
+      → Step h (call g (update d to serial reached)) answer (wrote h g new serials)
+  repaired : {g : Given} {from lost : ℕ} (answer : ℕ) (new serials : List ℕ)
+      → RepairPost (g .params) from lost (lent h g) (serialsLent h g) answer new serials
+      → Step h (call g (repair from lost)) answer (wrote h g new serials)
+  reconfigured : {g : Given} {t : Shape} {buffer numbers x : List ℕ} {from to : ℕ} (answer : ℕ) (new serials : List ℕ)
+      → ReconfigurePost (g .params) t (lent h g) (serialsLent h g) from to x buffer numbers answer new serials
+      → Step h (call g (reconfigure t buffer numbers x from to)) answer (moved answer h (g .params) t new serials)
   decoded : {g : Given} {buffer : List ℕ} {from : ℕ} (answer : ℕ) (out : List ℕ)
       → DecodePost (g .params) (lent h g) from buffer answer out → Step h (call g (decode buffer from)) answer h
   differed : {g : Given} {d buffer : List ℕ} {to : ℕ} (answer : ℕ) (out : List ℕ)
@@ -151,13 +192,15 @@ pub data Step (h : Held) : Event → ℕ → Held → Type 0 where
 -- The accepted event's effect, sentence by sentence; every other call alters nothing.
 abbrev pub effect : Machine → Event → Machine
 effect m (call g (encode x v)) = opened (g .params) x
--- "An accepted change adds its d to the ledger, byte by byte by the field's sum, .. also where W holds damaged traps; the set stays."
-effect m (call g (update d to)) = withLedger (plus (m .ledger) d) m
+-- "An accepted change adds its d to the ledger, byte by byte by the field's sum, .. also where W holds damaged traps; the set stays." "A ledger counts all accepted
+-- sends under one serial as one change": at the first of them, whichever nodes it reaches.
+effect m (call g (update d to serial reached)) =
+    withSends (sending d to serial reached (m .sends)) (withLedger (cond (m .sends .sent serial) (m .ledger) (plus (m .ledger) d)) m)
 -- "An accepted rebuild takes L out of the set."
 effect m (call g (repair from lost)) = withDamaged (λ i. m .damaged i && not (has lost i)) m
 -- "An accepted rearrangement puts the new arrangement in force, makes the new message the ledger, and takes W', the traps above n and the dropped traps out
 -- of the set."
-effect m (call g (reconfigure t buffer x from to)) =
+effect m (call g (reconfigure t buffer numbers x from to)) =
     machineUnder (reshaped (g .params) t)
     (withLedger x (withDamaged (λ i. ((m .damaged i && not (has to i)) && leb i (g .params .n)) && leb i (t .n)) m))
 effect m (call g (decode buffer from)) = m
@@ -178,36 +221,57 @@ stepped (suc q) m e = m
 abbrev pub Undamaged : Machine → ℕ → Type 0
 Undamaged m from = (i : ℕ) → has from i ≡ true → m .damaged i ≡ false
 
+-- "A change is closed when all w traps were reached" (document 02, 2026-03): the change under each serial.
+abbrev pub Closed : Sends → Type 0
+Closed k = (serial : ℕ) → k .sent serial ≡ true → (i : ℕ) → has (k .to serial) i ≡ true → k .reached serial i ≡ true
+
+-- What document 02, 2026-03, asks of an accepted change of a list: under a serial that was sent before it is the same change again, under any other it begins one.
+pub record Sendable (k : Sends) (d : List ℕ) (to serial : ℕ) : Type 0 where
+  -- "in lists all sends under one serial have the same W and change bytes"
+  pub same : k .sent serial ≡ true → (to ≡ k .to serial) × (d ≡ k .change serial)
+  -- "A change carries a serial, in lists higher than that of any change accepted before it"
+  pub higher : k .sent serial ≡ false → (s : ℕ) → k .sent s ≡ true → s < serial
+  -- "no other change begins while one is open"
+  pub alone : k .sent serial ≡ false → Closed k
+
+-- R is "between closed changes" and holds no damaged node: "readings, those after a list too, rebuilds and rearrangements come between closed changes" (document
+-- 02, 2026-03).
+pub record Readable (m : Machine) (from : ℕ) : Type 0 where
+  pub undamaged : Undamaged m from
+  pub closed : Closed (m .sends)
+
 -- What an accepted event of a list must satisfy: it is given what is in force; the list "holds no other accepted set-up"; "Accepted rebuilds and rearrangements
--- read undamaged traps only" (demand 3).
+-- read undamaged traps only" (demand 3), between closed changes; and what is asked of a change. Nothing more is asked of readings within the list, differences,
+-- checks, views and damage: they may come while a change is open.
 abbrev pub Allowed : Held → Machine → Event → Type 0
 Allowed h m (call g (encode x v)) = ⊥
-Allowed h m (call g (update d to)) = InForce h g
-Allowed h m (call g (repair from lost)) = InForce h g × Undamaged m from
-Allowed h m (call g (reconfigure t buffer x from to)) = InForce h g × Undamaged m from
-Allowed h m (call g (decode buffer from)) = InForce h g
+Allowed h m (call g (update d to serial reached)) = InForce h g × Sendable (m .sends) d to serial
+Allowed h m (call g (repair from lost)) = InForce h g × Readable m from
+Allowed h m (call g (reconfigure t buffer numbers x from to)) = InForce h g × Readable m from
+Allowed h m (call g (decode buffer from)) = RecordInForce h g
 Allowed h m (call g (delta d buffer to)) = g .params ≡ h .params
-Allowed h m (call g check) = InForce h g
-Allowed h m (call g (view node)) = InForce h g
+Allowed h m (call g check) = RecordInForce h g
+Allowed h m (call g (view node)) = RecordInForce h g
 Allowed h m (damage node bytes) = Unit {0}
 
--- What the types of the arguments say: bytes are bytes.
-abbrev pub LentBytes : Lent → Type 0
-LentBytes held = Unit {0}
-LentBytes (other bytes) = Bytes bytes
+-- What the types of the arguments say: bytes are bytes, serials and sets have 32 bits.
+abbrev pub LentAs : (List ℕ → Type 0) → Lent → Type 0
+LentAs P held = Unit {0}
+LentAs P (other numbers) = P numbers
 
-abbrev pub GivenBytes : Given → Type 0
-GivenBytes g = LentBytes (g .codeword)
+abbrev pub GivenTyped : Given → Type 0
+GivenTyped g = LentAs Bytes (g .codeword) × LentAs Words (g .serials)
 
 abbrev pub Typed : Event → Type 0
-Typed (call g (encode x v)) = GivenBytes g × Bytes x × Bytes v
-Typed (call g (update d to)) = GivenBytes g × Bytes d × (to < 2 ^ 32)
-Typed (call g (repair from lost)) = GivenBytes g × (from < 2 ^ 32) × (lost < 2 ^ 32)
-Typed (call g (reconfigure t buffer x from to)) = GivenBytes g × Bytes buffer × Bytes x × (from < 2 ^ 32) × (to < 2 ^ 32)
-Typed (call g (decode buffer from)) = GivenBytes g × Bytes buffer × (from < 2 ^ 32)
+Typed (call g (encode x v)) = GivenTyped g × Bytes x × Bytes v
+Typed (call g (update d to serial reached)) = GivenTyped g × Bytes d × (to < 2 ^ 32) × (serial < 2 ^ 32) × (reached < 2 ^ 32)
+Typed (call g (repair from lost)) = GivenTyped g × (from < 2 ^ 32) × (lost < 2 ^ 32)
+Typed (call g (reconfigure t buffer numbers x from to)) =
+    GivenTyped g × Bytes buffer × Words numbers × Bytes x × (from < 2 ^ 32) × (to < 2 ^ 32)
+Typed (call g (decode buffer from)) = GivenTyped g × Bytes buffer × (from < 2 ^ 32)
 Typed (call g (delta d buffer to)) = Bytes d × Bytes buffer × (to < 2 ^ 32)
-Typed (call g check) = GivenBytes g
-Typed (call g (view node)) = GivenBytes g
+Typed (call g check) = GivenTyped g
+Typed (call g (view node)) = GivenTyped g
 Typed (damage node bytes) = Bytes bytes
 
 -- A list from one state of system and machine to another. Each event has its answer; one that is answered with 0 is accepted.
@@ -216,21 +280,23 @@ pub data Run : Held → Machine → List Event → Held → Machine → Type 0 w
   more : {h h′ h″ : Held} {m m″ : Machine} {e : Event} {q : ℕ} {es : List Event}
       → Typed e → (q ≡ 0 → Allowed h m e) → Step h e q h′ → Run h′ (stepped q m e) es h″ m″ → Run h m (e ∷ es) h″ m″
 
--- "A list opens with an accepted set-up, over whichever bytes the record's buffer held."
+-- "A list opens with an accepted set-up, over whichever bytes the record's buffer held", and whichever numbers that of the serials.
 pub record History (events : List Event) (h : Held) (m : Machine) : Type 0 where
   pub params : Params
   pub message : List ℕ
   pub slack : List ℕ
   pub buffer : List ℕ
+  pub numbers : List ℕ
   pub codeword : List ℕ
-  pub typed : Bytes message × Bytes slack × Bytes buffer
-  pub opening : EncodePost params message slack buffer 0 codeword
-  pub run : Run (begun params codeword) (opened params message) events h m
+  pub serials : List ℕ
+  pub typed : Bytes message × Bytes slack × Bytes buffer × Words numbers
+  pub opening : EncodePost params message slack buffer numbers 0 codeword serials
+  pub run : Run (begun params codeword serials) (opened params message) events h m
 
 -- "An accepted reading after the list, through r undamaged traps": given the parameters and the record that the list left, a set R without damaged nodes,
--- and a buffer with any bytes.
+-- between closed changes, and a buffer with any bytes.
 pub record Reading (h : Held) (m : Machine) (out : List ℕ) : Type 0 where
   pub from : ℕ
   pub buffer : List ℕ
   pub accepted : DecodePost (h .params) (h .codeword) from buffer 0 out
-  pub undamaged : Undamaged m from
+  pub readable : Readable m from
