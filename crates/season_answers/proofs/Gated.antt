@@ -48,41 +48,42 @@ module _ {a : Params} (v : Valid a) where
 
 -- ---- each kind's answer, from what its gate found
 
-module _ (a : Params) (e : Event) where
+module _ (a : Params) (serial : ℕ) (e : Event) where
   module _ (x y g : ℕ) (hx : Extent (a .n) (a .b) x) (hy : Extent (a .k) (a .b) y) where
-    update-same : (to : ℕ) → updateGate a x y to ≡ updateGate a (a .n * a .b) (a .k * a .b) to
+    update-same : (to : ℕ) → updateGate a x (a .n) y to serial ≡ updateGate a (a .n * a .b) (a .n) (a .k * a .b) to serial
     unfolding updateGate
     update-same to = behind (paramsAsked a) _ _ (λ y. let v = params-known a y .0 in simp (n-found v hx, k-found v hy))
 
-    pub update-answer : (f : UpdateFields) → e ≡ Update f → g ≡ updateGate a x y (f .to .0) → g ≡ answerOf a e
+    pub update-answer : (f : UpdateFields) → e ≡ Update f → g ≡ updateGate a x (a .n) y (f .to .0) serial → g ≡ answerOf a serial e
     unfolding answerOf
-    update-answer f h k = k ∙ update-same (f .to .0) ∙ sym (ap (answerOf a) h)
+    update-answer f h k = k ∙ update-same (f .to .0) ∙ sym (ap (answerOf a serial) h)
 
     decode-same : (from : ℕ) → decodeGate a x y from ≡ decodeGate a (a .n * a .b) (a .k * a .b) from
     unfolding decodeGate
     decode-same from = behind (paramsAsked a) _ _ (λ y. let v = params-known a y .0 in simp (n-found v hx, k-found v hy))
 
-    pub decode-answer : (f : DecodeFields) → e ≡ Decode f → g ≡ decodeGate a x y (f .from .0) → g ≡ answerOf a e
+    pub decode-answer : (f : DecodeFields) → e ≡ Decode f → g ≡ decodeGate a x y (f .from .0) → g ≡ answerOf a serial e
     unfolding answerOf
-    decode-answer f h k = k ∙ decode-same (f .from .0) ∙ sym (ap (answerOf a) h)
+    decode-answer f h k = k ∙ decode-same (f .from .0) ∙ sym (ap (answerOf a serial) h)
 
-  repair-same : (x from lost : ℕ) → Extent (a .n) (a .b) x → repairGate a x from lost ≡ repairGate a (a .n * a .b) from lost
+  repair-same : (x from lost : ℕ) → Extent (a .n) (a .b) x → repairGate a x (a .n) from lost ≡ repairGate a (a .n * a .b) (a .n) from lost
   unfolding repairGate
   repair-same x from lost hx = behind (paramsAsked a) _ _ (λ y. simp (n-found (params-known a y .0) hx))
 
-  pub repair-answer : (x g : ℕ) (f : RepairFields) → Extent (a .n) (a .b) x → e ≡ Repair f → g ≡ repairGate a x (f .from .0) (f .lost .0)
-      → g ≡ answerOf a e
+  pub repair-answer : (x g : ℕ) (f : RepairFields) → Extent (a .n) (a .b) x → e ≡ Repair f → g ≡ repairGate a x (a .n) (f .from .0) (f .lost .0)
+      → g ≡ answerOf a serial e
   unfolding answerOf
-  repair-answer x g f hx h k = k ∙ repair-same x (f .from .0) (f .lost .0) hx ∙ sym (ap (answerOf a) h)
+  repair-answer x g f hx h k = k ∙ repair-same x (f .from .0) (f .lost .0) hx ∙ sym (ap (answerOf a serial) h)
 
-  pub damage-answer : (g : ℕ) (f : DamageFields) → e ≡ Damage f → g ≡ damageGate (a .n) (f .node .0) → g ≡ answerOf a e
+  pub damage-answer : (g : ℕ) (f : DamageFields) → e ≡ Damage f → g ≡ damageGate (a .n) (f .node .0) → g ≡ answerOf a serial e
   unfolding answerOf
-  damage-answer g f h k = k ∙ sym (ap (answerOf a) h)
+  damage-answer g f h k = k ∙ sym (ap (answerOf a serial) h)
 
 module _ (a : Params) (f : ReconfigureFields) (x y z g : ℕ) (hx : Extent (a .n) (a .b) x) (hy : Extent (f .shape .n) (a .b) y)
     (hz : Extent (f .shape .k) (a .b) z) where
   reconfigure-same : (from to : ℕ)
-      → reconfigureGate a (f .shape) x y z from to ≡ reconfigureGate a (f .shape) (a .n * a .b) (f .shape .n * a .b) (f .shape .k * a .b) from to
+      → reconfigureGate a (f .shape) x (a .n) y (f .shape .n) z from to
+      ≡ reconfigureGate a (f .shape) (a .n * a .b) (a .n) (f .shape .n * a .b) (f .shape .n) (f .shape .k * a .b) from to
   unfolding reconfigureGate
   reconfigure-same from to =
       behind (paramsAsked a ++ shapeAsked 10 (f .shape)) _ _
@@ -91,6 +92,6 @@ module _ (a : Params) (f : ReconfigureFields) (x y z g : ℕ) (hx : Extent (a .n
       let v : Valid (reshaped a (f .shape)) = record { shape = shape-known 10 (f .shape) (p .1) .0; b-low = p .0 .b-low; b-high = p .0 .b-high } in
       simp (n-found (p .0) hx, n-found v hy, k-found v hz))
 
-  pub reconfigure-answer : g ≡ reconfigureGate a (f .shape) x y z (f .from .0) (f .to .0) → g ≡ answerOf a (Reconfigure f)
+  pub reconfigure-answer : g ≡ reconfigureGate a (f .shape) x (a .n) y (f .shape .n) z (f .from .0) (f .to .0) → (serial : ℕ) → g ≡ answerOf a serial (Reconfigure f)
   unfolding answerOf
-  reconfigure-answer k = k ∙ reconfigure-same (f .from .0) (f .to .0)
+  reconfigure-answer k serial = k ∙ reconfigure-same (f .from .0) (f .to .0)

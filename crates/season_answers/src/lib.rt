@@ -10,6 +10,7 @@ use params::Params;
 use season_file::Event;
 use season_file::ReconfigureFields;
 ghost use mathlib.Core.Path.{_≡_};
+ghost use Prim.Native.Nat.{ℕ};
 ghost use Rattle.season_file.specs.File.{kindOf};
 ghost use Rattle.season_file.specs.declared.Event.the-variants.{Reconfigure};
 ghost use Rattle.season_answers.specs.Answers.{answerOf};
@@ -29,30 +30,30 @@ pub fn kind_of(e: Event) -> u8
     }
 }
 
-// The answer to the event under the parameters in force.
-pub fn answer(a: Params, e: Event) -> u32
-    ensures { λ r. ⌜ r ≡ answerOf a e ⌝ }
+// The answer to the event under the parameters in force, with the serial that a change carries.
+pub fn answer(a: Params, serial: u32, e: Event) -> u32
+    ensures { λ r. ⌜ r ≡ answerOf a serial e ⌝ }
 {
     let codeword = extent(a.n, a.b);
     let message = extent(a.k, a.b);
     match e {
-        Event::Update(f) => update_gate(a, codeword, message, f.to),
-        Event::Repair(f) => repair_gate(a, codeword, f.from, f.lost),
+        Event::Update(f) => update_gate(a, codeword, a.n, message, f.to, serial),
+        Event::Repair(f) => repair_gate(a, codeword, a.n, f.from, f.lost),
         Event::Damage(f) => damage_gate(a.n, f.node),
         Event::Decode(f) => decode_gate(a, codeword, message, f.from),
         Event::Reconfigure(f) => reconfigure_answer(a, codeword, f),
     }
 }
 
-// A rearrangement's, with the length of the record in force.
+// A rearrangement's, with the length of the record in force. It carries no serial.
 fn reconfigure_answer(a: Params, codeword: usize, f: ReconfigureFields) -> u32
     requires { ⌜ Extent (a .n) (a .b) codeword ⌝ }
-    ensures { λ r. ⌜ r ≡ answerOf a (Reconfigure f) ⌝ }
+    ensures { λ r. ⌜ ((serial : ℕ) → r ≡ answerOf a serial (Reconfigure f)) ⌝ }
 {
     let shape = f.shape;
     let new = extent(shape.n, a.b);
     let message = extent(shape.k, a.b);
-    reconfigure_gate(a, shape, codeword, new, message, f.from, f.to)
+    reconfigure_gate(a, shape, codeword, a.n, new, shape.n, message, f.from, f.to)
 }
 
 // The bytes of so many blocks of a size. Where valid parameters have no such blocks the answer may be any number: a gate refuses those parameters before it

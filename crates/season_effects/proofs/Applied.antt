@@ -7,7 +7,7 @@ use Prim.Native.Nat.{ℕ, zero, suc, _+_, _-_, _*_, _≤_, _<_}
 use native.Mathlib.Omega.{arith}
 use lib.Dec.{eqb}
 use lib.ListN.{length, getD, take, drop, length-replicate}
-use lib.Seq.{length-take-le, drop-drop}
+use lib.Seq.{length-take-le, drop-drop, ext-getD}
 use borrow.Author.Tests.{eq-eqb, ne-eqb}
 use borrow.Rule.Slice.PartMut.{drop-put}
 use Rattle.base.specs.Seq.{cell}
@@ -17,13 +17,16 @@ use Rattle.base.proofs.Parts.{length-partOf, putBlock-here, putBlock-other, put
 use Rattle.base.proofs.Seq.{cells-ext, cell-blocks, length-blocks, cell-take}
 use Rattle.gates.specs.Valid.{Valid}
 use Rattle.params.specs.declared.Params.{Params}
+use Rattle.params.specs.Nodes.{has}
 use Rattle.params.specs.Params.{reshaped}
+use Rattle.params.proofs.Sets.{has-none}
+use Rattle.serials.specs.Serials.{Stamped}
 use Rattle.gates.proofs.Valid.{reconfigure-accepted}
 use Rattle.code.specs.Calls.{UpdatePost, RepairPost, DecodePost, ReconfigurePost, Reconfigured}
 use Rattle.blocks.specs.Bytes.{over}
 use Rattle.blocks.proofs.Laws.{over-same}
 use Rattle.ledger.specs.Ledger as ledger
-use Rattle.ledger.specs.Ledger.{Held, heldUnder, withCodeword, damagedWord, damagedHeld, Step, updated, repaired, decoded, reconfigured, damaged}
+use Rattle.ledger.specs.Ledger.{Held, begun, damagedWord, damagedHeld, Step, updated, repaired, decoded, reconfigured, damaged}
 use Rattle.ledger.proofs.Invariant.{moved-same, damaged-same}
 use Rattle.season_file.specs.File.{bytesOf}
 use Rattle.season_answers.specs.Answers.{answerOf}
@@ -35,67 +38,83 @@ use Rattle.season_file.specs.declared.DamageFields.{DamageFields}
 use Rattle.season_file.specs.declared.DecodeFields.{DecodeFields}
 use Rattle.season_file.specs.declared.ReconfigureFields.{ReconfigureFields}
 use Rattle.season_effects.specs.Events.{listed, Prints, heldIn}
-use Rattle.season_effects.specs.Effects.{Stretch, Ready, Effected, laid, Taken, EffectPost}
-use Rattle.season_effects.proofs.Answered.{stretch-length, gate, answer-is-gate, answered}
+use Rattle.season_effects.specs.Effects.{Stretch, InFull, Accepted, Ready, Effected, laid, Taken, EffectPost}
+use Rattle.season_effects.proofs.Answered.{stretch-length, gate, Full, answer-is-gate, answered}
 use Rattle.season_effects.proofs.Fronts.{blocks-room, front-take, front-drop, front-length, over-front, part-is}
 
--- an event that leaves the given record at the front
-fronted : (a a′ : Params) (input : List ℕ) (e : Event) (buffer new message : List ℕ) → a′ .n * a′ .b ≤ length buffer → length new ≡ a′ .n * a′ .b
-    → Prints (heldIn a buffer) e message
-    → Step (heldIn a buffer) (listed (heldIn a buffer) input e) (answerOf a e) (heldUnder a′ (withCodeword new (heldIn a buffer)))
-    → Effected a input e buffer a′ message (new ++ drop (a′ .n * a′ .b) buffer)
-fronted a a′ input e buffer new message fits full prints step =
+-- an event that leaves the given record and serials at the front
+fronted : (a a′ : Params) (input : List ℕ) (serial : ℕ) (e : Event) (buffer serials new numbers message : List ℕ) → a′ .n * a′ .b ≤ length buffer
+    → a′ .n ≤ length serials → length new ≡ a′ .n * a′ .b → length numbers ≡ a′ .n → Prints (heldIn a buffer serials) serial e message
+    → Step (heldIn a buffer serials) (listed (heldIn a buffer serials) input serial e) (answerOf a serial e) (begun a′ new numbers)
+    → Effected a input serial e buffer serials a′ message (new ++ drop (a′ .n * a′ .b) buffer) (numbers ++ drop (a′ .n) serials)
+fronted a a′ input serial e buffer serials new numbers message fits room full count prints step =
     record {
       prints = prints;
       step =
-          subst
-          (λ (l : List ℕ). Step (heldIn a buffer) (listed (heldIn a buffer) input e) (answerOf a e) (heldUnder a′ (withCodeword l (heldIn a buffer))))
-          (sym (front-take (a′ .n * a′ .b) buffer new fits full)) step;
+          subst₂
+          (λ (l k : List ℕ). Step (heldIn a buffer serials) (listed (heldIn a buffer serials) input serial e) (answerOf a serial e) (begun a′ l k))
+          (sym (front-take (a′ .n * a′ .b) buffer new fits full)) (sym (front-take (a′ .n) serials numbers room count)) step;
       length-is = front-length (a′ .n * a′ .b) buffer new fits full;
       rest = front-drop (a′ .n * a′ .b) buffer new fits full;
+      serials-length = front-length (a′ .n) serials numbers room count;
+      serials-rest = front-drop (a′ .n) serials numbers room count;
     }
 
 -- one that leaves all as it was
-pub unmoved : (a : Params) (input : List ℕ) (e : Event) (buffer message : List ℕ) → Prints (heldIn a buffer) e message
-    → Step (heldIn a buffer) (listed (heldIn a buffer) input e) (answerOf a e) (heldIn a buffer) → Effected a input e buffer a message buffer
-unmoved a input e buffer message prints step = record { prints = prints; step = step; length-is = refl; rest = refl }
+unmoved : (a : Params) (input : List ℕ) (serial : ℕ) (e : Event) (buffer serials message : List ℕ) → Prints (heldIn a buffer serials) serial e message
+    → Step (heldIn a buffer serials) (listed (heldIn a buffer serials) input serial e) (answerOf a serial e) (heldIn a buffer serials)
+    → Effected a input serial e buffer serials a message buffer serials
+unmoved a input serial e buffer serials message prints step =
+    record { prints = prints; step = step; length-is = refl; rest = refl; serials-length = refl; serials-rest = refl }
 
--- the record at the front of a buffer has n·b bytes
-front-full : (a : Params) (buffer : List ℕ) → Valid a → length buffer ≡ 32768 → length (take (a .n * a .b) buffer) ≡ a .n * a .b
-front-full a buffer v room =
-    let nb : a .n * a .b ≤ 32768 = blocks-room a (a .n) v (omega arith) in length-take-le (a .n * a .b) buffer (omega arith)
+-- the record at the front of a buffer has n·b bytes, and there are n serials at the front of theirs
+front-full : (a : Params) (buffer serials : List ℕ) → Valid a → length buffer ≡ 32768 → length serials ≡ 32 → Full (heldIn a buffer serials)
+front-full a buffer serials v room count =
+    let nb : a .n * a .b ≤ 32768 = blocks-room a (a .n) v (omega arith) in
+    (length-take-le (a .n * a .b) buffer (omega arith), length-take-le (a .n) serials (omega (arith, v .shape .n-high)))
 
 -- ---- the room
 
 -- nothing is laid in it
-pub quiet : (q : ℕ) (a : Params) (input : List ℕ) (e : Event) (buffer room buffer′ : List ℕ) → [] ≡ laid q e [] (take (a .n * a .b) buffer′)
-    → Effected a input e buffer a [] buffer′ → Taken a input e buffer room (record { params = a; answer = q; printed = 0 }) buffer′ room
-quiet q a input e buffer room buffer′ none x = record { effected = x; printed-fits = omega arith; work = []; work-is = none; room-is = refl }
+quiet : (q : ℕ) (a : Params) (input : List ℕ) (serial : ℕ) (e : Event) (buffer serials room buffer′ serials′ : List ℕ)
+    → [] ≡ laid q e [] (take (a .n * a .b) buffer′) → Effected a input serial e buffer serials a [] buffer′ serials′
+    → Taken a input serial e buffer serials room (record { params = a; answer = q; printed = 0 }) buffer′ serials′ room
+quiet q a input serial e buffer serials room buffer′ serials′ none x =
+    record { effected = x; printed-fits = omega arith; work = []; work-is = none; room-is = refl }
 
 -- .. by an accepted event
-abbrev Quiet : Params → List ℕ → Event → List ℕ → List ℕ → List ℕ → Type 0
-Quiet a input e buffer room buffer′ = Taken a input e buffer room (record { params = a; answer = 0; printed = 0 }) buffer′ room
+abbrev Quiet : Params → List ℕ → ℕ → Event → List ℕ → List ℕ → List ℕ → List ℕ → List ℕ → Type 0
+Quiet a input serial e buffer serials room buffer′ serials′ =
+    Taken a input serial e buffer serials room (record { params = a; answer = 0; printed = 0 }) buffer′ serials′ room
 
 -- ---- change and rebuild
 
-pub update-applied : (a : Params) (input : List ℕ) (f : UpdateFields) (buffer new : List ℕ) (answer : ℕ) → Valid a → length buffer ≡ 32768
-    → Stretch (length input) (f .change) (a .k * a .b) → length new ≡ a .n * a .b
-    → UpdatePost a (take (f .change .at + f .change .count - f .change .at) (drop (f .change .at) input)) (f .to .0) (take (a .n * a .b) buffer) answer new
-    → (room : List ℕ) → Quiet a input (Update f) buffer room (new ++ drop (a .n * a .b) buffer)
-update-applied a input f buffer new answer v hb s full post room =
-    quiet 0 a input (Update f) buffer room _ refl
-    (fronted a a input (Update f) buffer new [] (omega (arith, blocks-room a (a .n) v (omega arith))) full refl
-    (answered (heldIn a buffer) input (Update f) (front-full a buffer v hb) s
-    (updated answer new
-    (subst (λ (d : List ℕ). UpdatePost a d (f .to .0) (take (a .n * a .b) buffer) answer new) (part-is input (f .change)) post))))
+module _ (a : Params) (v : Valid a) (buffer serials new numbers : List ℕ) (hb : length buffer ≡ 32768) (hs : length serials ≡ 32)
+    (full : length new ≡ a .n * a .b) (count : length numbers ≡ a .n) where
+  -- the call's step, in the buffers
+  stepped-in : (input : List ℕ) (serial : ℕ) (e : Event) → InFull a (length input) e → Prints (heldIn a buffer serials) serial e [] → {q : ℕ}
+      → Step (heldIn a buffer serials) (listed (heldIn a buffer serials) input serial e) q (begun a new numbers)
+      → Effected a input serial e buffer serials a [] (new ++ drop (a .n * a .b) buffer) (numbers ++ drop (a .n) serials)
+  stepped-in input serial e i prints step =
+      fronted a a input serial e buffer serials new numbers [] (omega (arith, blocks-room a (a .n) v (omega arith))) (omega (arith, v .shape .n-high)) full
+      count prints (answered (heldIn a buffer serials) input serial e (front-full a buffer serials v hb hs) i step)
 
-pub repair-applied : (a : Params) (input : List ℕ) (f : RepairFields) (buffer new : List ℕ) (answer : ℕ) → Valid a → length buffer ≡ 32768
-    → length new ≡ a .n * a .b → RepairPost a (f .from .0) (f .lost .0) (take (a .n * a .b) buffer) answer new
-    → (room : List ℕ) → Quiet a input (Repair f) buffer room (new ++ drop (a .n * a .b) buffer)
-repair-applied a input f buffer new answer v hb full post room =
-    quiet 0 a input (Repair f) buffer room _ refl
-    (fronted a a input (Repair f) buffer new [] (omega (arith, blocks-room a (a .n) v (omega arith))) full refl
-    (answered (heldIn a buffer) input (Repair f) (front-full a buffer v hb) tt (repaired answer new post)))
+  pub update-applied : (input : List ℕ) (serial : ℕ) (f : UpdateFields) (answer : ℕ) → Stretch (length input) (f .change) (a .k * a .b)
+      → UpdatePost a (take (f .change .at + f .change .count - f .change .at) (drop (f .change .at) input)) (f .to .0) serial (f .to .0)
+      (take (a .n * a .b) buffer) (take (a .n) serials) answer new numbers
+      → (room : List ℕ) → Quiet a input serial (Update f) buffer serials room (new ++ drop (a .n * a .b) buffer) (numbers ++ drop (a .n) serials)
+  update-applied input serial f answer s post room =
+      quiet 0 a input serial (Update f) buffer serials room _ _ refl
+      (stepped-in input serial (Update f) s refl
+      (updated answer new numbers
+      (subst (λ (d : List ℕ). UpdatePost a d (f .to .0) serial (f .to .0) (take (a .n * a .b) buffer) (take (a .n) serials) answer new numbers)
+      (part-is input (f .change)) post)))
+
+  pub repair-applied : (f : RepairFields) (answer : ℕ)
+      → RepairPost a (f .from .0) (f .lost .0) (take (a .n * a .b) buffer) (take (a .n) serials) answer new numbers → (input room : List ℕ) (serial : ℕ)
+      → Quiet a input serial (Repair f) buffer serials room (new ++ drop (a .n * a .b) buffer) (numbers ++ drop (a .n) serials)
+  repair-applied f answer post input room serial =
+      quiet 0 a input serial (Repair f) buffer serials room _ _ refl (stepped-in input serial (Repair f) tt refl (repaired answer new numbers post))
 
 -- ---- damage
 
@@ -142,40 +161,45 @@ module _ (a : Params) (input : List ℕ) (f : DamageFields) (buffer : List ℕ) 
         (drop-put (j * a .b) (j * a .b + a .b) buffer block (omega arith) (omega (arith, fits)) (full ∙ omega arith))
         ∙ drop-drop (a .n * a .b - (j * a .b + a .b)) (j * a .b + a .b) buffer ∙ ap (λ (m : ℕ). drop m buffer) e
 
-  pub damage-applied : answerOf a (Damage f) ≡ 0 → (new : List ℕ)
+  pub damage-applied : Accepted a (Damage f) → (new : List ℕ)
       → new ≡ over (partOf (a .b) j buffer) (take (f .block .at + f .block .count - f .block .at) (drop (f .block .at) input))
-      → (room : List ℕ) → Quiet a input (Damage f) buffer room (putBlock (a .b) j buffer new)
+      → (room serials : List ℕ) (serial : ℕ) → Quiet a input serial (Damage f) buffer serials room (putBlock (a .b) j buffer new) serials
   unfolding answerOf
-  damage-applied z new e room =
+  damage-applied z new e room serials serial =
       let same : new ≡ bytesOf input (f .block) =
       e ∙ over-same (partOf (a .b) j buffer) _
       (ap length (part-is input (f .block)) ∙ given ∙ sym (length-partOf (a .b) j buffer (row-ends (a .n) j (a .b) (length buffer) below fits)))
       ∙ part-is input (f .block) in
       let full : length new ≡ a .b = ap length same ∙ given in
-      quiet 0 a input (Damage f) buffer room _ refl
+      quiet 0 a input serial (Damage f) buffer serials room _ _ refl
       (record {
         prints = refl;
         step =
             subst₂
-            (λ (x l : List ℕ). Step (heldIn a buffer) (ledger.damage (f .node .0) x) (answerOf a (Damage f)) (withCodeword l (heldIn a buffer))) same
-            (sym (damaged-word new full))
+            (λ (x l : List ℕ). Step (heldIn a buffer serials) (ledger.damage (f .node .0) x) (answerOf a serial (Damage f)) (begun a l (take (a .n) serials)))
+            same (sym (damaged-word new full))
             (subst
-            (λ (q : ℕ). Step (heldIn a buffer) (ledger.damage (f .node .0) new) (answerOf a (Damage f)) (damagedHeld q (heldIn a buffer) (f .node .0) new))
-            z (damaged refl));
+            (λ (q : ℕ).
+            Step (heldIn a buffer serials) (ledger.damage (f .node .0) new) (answerOf a serial (Damage f)) (damagedHeld q (heldIn a buffer serials) (f .node .0) new))
+            (z .1) (damaged refl));
         length-is = putBlock-length (a .b) (a .n) j buffer new below fits full;
         rest = behind new full;
+        serials-length = refl;
+        serials-rest = refl;
       })
 
 -- ---- reading
 
-pub decode-applied : (a : Params) (input : List ℕ) (f : DecodeFields) (buffer room out : List ℕ) (answer : ℕ) → Valid a → length buffer ≡ 32768
-    → length room ≡ 32768 → answerOf a (Decode f) ≡ 0 → length out ≡ a .k * a .b
-    → DecodePost a (take (a .n * a .b) buffer) (f .from .0) (take (a .k * a .b) room) answer out
-    → Taken a input (Decode f) buffer room (record { params = a; answer = 0; printed = a .k * a .b }) buffer (out ++ drop (a .k * a .b) room)
+pub decode-applied : (a : Params) (f : DecodeFields) (buffer room out : List ℕ) (answer : ℕ) → Valid a → length buffer ≡ 32768 → length room ≡ 32768
+    → Accepted a (Decode f) → length out ≡ a .k * a .b
+    → DecodePost a (take (a .n * a .b) buffer) (f .from .0) (take (a .k * a .b) room) answer out → (input serials : List ℕ) (serial : ℕ)
+    → length serials ≡ 32
+    → Taken a input serial (Decode f) buffer serials room (record { params = a; answer = 0; printed = a .k * a .b }) buffer serials
+    (out ++ drop (a .k * a .b) room)
 unfolding answerOf
-decode-applied a input f buffer room out answer v hb hr z full post =
+decode-applied a f buffer room out answer v hb hr (_, z) full post input serials serial hs =
     let kb : a .k * a .b ≤ 32768 = blocks-room a (a .k) v (omega arith) in
-    let lb = front-full a buffer v hb in
+    let lb = front-full a buffer serials v hb hs in
     let lr = length-take-le (a .k * a .b) room (omega arith) in
     let lz = length-replicate {A = ℕ} (a .k * a .b) 0 in
     let zero : answer ≡ 0 = post .number ∙ cc in
@@ -183,9 +207,10 @@ decode-applied a input f buffer room out answer v hb hr z full post =
     let front = front-take (a .k * a .b) room out (omega arith) full in
     record {
       effected =
-          unmoved a input (Decode f) buffer _
-          (subst (λ (m : List ℕ). Prints (heldIn a buffer) (Decode f) m) (sym front) (record { served = λ _. d; refused = λ ne. absurd (ne z) }))
-          (answered (heldIn a buffer) input (Decode f) lb tt (decoded 0 out (record { number = cc; served = λ _. d; refused = λ ne. absurd (ne refl) })));
+          unmoved a input serial (Decode f) buffer serials _
+          (subst (λ (m : List ℕ). Prints (heldIn a buffer serials) serial (Decode f) m) (sym front) (record { served = λ _. d; refused = λ ne. absurd (ne z) }))
+          (answered (heldIn a buffer serials) input serial (Decode f) lb tt
+          (decoded 0 out (record { number = cc; served = λ _. d; refused = λ ne. absurd (ne refl) })));
       printed-fits = kb;
       work = out;
       work-is = sym front;
@@ -194,78 +219,110 @@ decode-applied a input f buffer room out answer v hb hr z full post =
 
 -- ---- rearrangement
 
-pub new-valid : (a : Params) (f : ReconfigureFields) → answerOf a (Reconfigure f) ≡ 0 → Valid (reshaped a (f .shape))
+pub new-valid : (a : Params) (f : ReconfigureFields) → Accepted a (Reconfigure f) → Valid (reshaped a (f .shape))
 unfolding answerOf
-new-valid a f z = reconfigure-accepted a (f .shape) _ _ _ _ _ .0 z .valid-new
+new-valid a f (_, z) = reconfigure-accepted a (f .shape) _ _ _ _ _ _ _ .0 z .valid-new
 
-pub reconfigure-applied : (a : Params) (input : List ℕ) (f : ReconfigureFields) → answerOf a (Reconfigure f) ≡ 0
-    → (buffer room new : List ℕ) (answer : ℕ) → Ready a (length input) (Reconfigure f) (length buffer) (length room)
-    → length new ≡ f .shape .n * a .b
-    → ReconfigurePost a (f .shape) (take (a .n * a .b) buffer) (f .from .0) (f .to .0)
-    (take (f .message .at + f .message .count - f .message .at) (drop (f .message .at) input)) (take (f .shape .n * a .b) room) answer new
-    → (buffer′ : List ℕ) → buffer′ ≡ over buffer (take (f .shape .n * a .b) (new ++ drop (f .shape .n * a .b) room))
-    → Taken a input (Reconfigure f) buffer room (record { params = reshaped a (f .shape); answer = 0; printed = 0 }) buffer′
-    (new ++ drop (f .shape .n * a .b) room)
-unfolding answerOf
-reconfigure-applied a input f z buffer room new answer h full post buffer′ e =
-    let nb′ : f .shape .n * a .b ≤ 32768 = blocks-room (reshaped a (f .shape)) (f .shape .n) (new-valid a f z) (omega arith) in
-    let hr = h .work-room in
-    let fits : f .shape .n * a .b ≤ length buffer = omega (arith, h .record-room) in
-    let lb = front-full a buffer (h .valid) (h .record-room) in
-    let lr = length-take-le (f .shape .n * a .b) room (omega arith) in
-    let lz = length-replicate {A = ℕ} (f .shape .n * a .b) 0 in
-    let pi = part-is input (f .message) in
-    let lm = stretch-length input (f .message) _ (h .found) in
-    let zero : answer ≡ 0 = post .number ∙ cc in
-    let d =
-    subst (λ (x : List ℕ). Reconfigured a (f .shape) (take (a .n * a .b) buffer) (f .from .0) (f .to .0) x new) pi (post .served zero) in
-    let whole : buffer′ ≡ new ++ drop (f .shape .n * a .b) buffer =
-    e ∙ ap (over buffer) (front-take (f .shape .n * a .b) room new (omega arith) full) ∙ over-front (f .shape .n * a .b) buffer new fits full in
-    record {
-      effected =
-          subst (Effected a input (Reconfigure f) buffer (reshaped a (f .shape)) []) (sym whole)
-          (fronted a (reshaped a (f .shape)) input (Reconfigure f) buffer new [] fits full refl
-          (answered (heldIn a buffer) input (Reconfigure f) lb (h .found)
-          (reconfigured 0 new (record { number = cc; served = λ _. d; refused = λ ne. absurd (ne refl) }))));
-      printed-fits = omega arith;
-      work = new;
-      work-is = sym (ap (take (f .shape .n * a .b)) whole ∙ front-take (f .shape .n * a .b) buffer new fits full);
-      room-is = ap (λ (m : ℕ). new ++ drop m room) (sym full);
-    }
+-- serials that no node takes are copied
+copied : (n serial : ℕ) (old new : List ℕ) → length old ≡ n → Stamped n (has 0) serial old new → new ≡ old
+copied n serial old new e s =
+    ext-getD 0 new old (s .length-is ∙ sym e) (λ j h. s .kept j (omega (arith, s .length-is)) (has-none (suc j)))
+
+module _ (a : Params) (input : List ℕ) (f : ReconfigureFields) (z : Accepted a (Reconfigure f)) (buffer serials room fresh : List ℕ)
+    (h : Ready a (length input) (Reconfigure f) (length buffer) (length serials) (length room)) (hf : length fresh ≡ 32) (new numbers : List ℕ) (answer : ℕ)
+    (full : length new ≡ f .shape .n * a .b) (count : length numbers ≡ f .shape .n)
+    (post
+    : ReconfigurePost a (f .shape) (take (a .n * a .b) buffer) (take (a .n) serials) (f .from .0) (f .to .0)
+    (take (f .message .at + f .message .count - f .message .at) (drop (f .message .at) input)) (take (f .shape .n * a .b) room) (take (f .shape .n) fresh)
+    answer new numbers) where
+  new-fits : f .shape .n * a .b ≤ 32768
+  new-fits = blocks-room (reshaped a (f .shape)) (f .shape .n) (new-valid a f z) (omega arith)
+
+  new-few : f .shape .n ≤ 32
+  new-few = new-valid a f z .shape .n-high
+
+  -- the call's step
+  reconfigure-step : (serial : ℕ)
+      → Step (heldIn a buffer serials) (listed (heldIn a buffer serials) input serial (Reconfigure f)) (answerOf a serial (Reconfigure f))
+      (begun (reshaped a (f .shape)) new numbers)
+  unfolding answerOf
+  reconfigure-step serial =
+      let lb = front-full a buffer serials (h .valid) (h .record-room) (h .serials-room) in
+      let bytes = lb .0 in
+      let words = lb .1 in
+      let lr = length-take-le (f .shape .n * a .b) room (omega (arith, new-fits, h .work-room)) in
+      let lf = length-take-le (f .shape .n) fresh (omega (arith, new-few)) in
+      let lz = length-replicate {A = ℕ} (f .shape .n * a .b) 0 in
+      let ls = length-replicate {A = ℕ} (f .shape .n) 0 in
+      let pi = part-is input (f .message) in
+      let lm = stretch-length input (f .message) _ (h .found) in
+      let accepted = z .1 in
+      let zero : answer ≡ 0 = post .number ∙ cc in
+      let served = post .served zero in
+      let d = subst (λ (x : List ℕ). Reconfigured a (f .shape) (take (a .n * a .b) buffer) (f .from .0) (f .to .0) x new) pi (served .0) in
+      answered (heldIn a buffer serials) input serial (Reconfigure f) lb (h .found)
+      (reconfigured 0 new numbers (record { number = cc; served = λ _. (d, served .1); refused = λ ne. absurd (ne refl) }))
+
+  pub reconfigure-applied : (buffer′ : List ℕ) → buffer′ ≡ over buffer (take (f .shape .n * a .b) (new ++ drop (f .shape .n * a .b) room))
+      → (serials′ : List ℕ)
+      → Stamped (length (take (f .shape .n) serials)) (has 0) 0 (take (f .shape .n) (numbers ++ drop (f .shape .n) fresh)) serials′ → (serial : ℕ)
+      → Taken a input serial (Reconfigure f) buffer serials room (record { params = reshaped a (f .shape); answer = 0; printed = 0 }) buffer′
+      (serials′ ++ drop (f .shape .n) serials) (new ++ drop (f .shape .n * a .b) room)
+  reconfigure-applied buffer′ e serials′ handed serial =
+      let fits : f .shape .n * a .b ≤ length buffer = omega (arith, new-fits, h .record-room) in
+      let few : f .shape .n ≤ length serials = omega (arith, new-few, h .serials-room) in
+      let whole : buffer′ ≡ new ++ drop (f .shape .n * a .b) buffer =
+      e ∙ ap (over buffer) (front-take (f .shape .n * a .b) room new (omega (arith, new-fits, h .work-room)) full)
+      ∙ over-front (f .shape .n * a .b) buffer new fits full in
+      let front = front-take (f .shape .n) fresh numbers (omega (arith, new-few)) count in
+      let same : serials′ ≡ numbers =
+      copied _ 0 _ serials′ (ap length front ∙ count ∙ sym (length-take-le (f .shape .n) serials few)) handed ∙ front in
+      record {
+        effected =
+            subst₂ (λ (l k : List ℕ). Effected a input serial (Reconfigure f) buffer serials (reshaped a (f .shape)) [] l (k ++ drop (f .shape .n) serials))
+            (sym whole) (sym same)
+            (fronted a (reshaped a (f .shape)) input serial (Reconfigure f) buffer serials new numbers [] fits few full count refl (reconfigure-step serial));
+        printed-fits = omega arith;
+        work = new;
+        work-is = sym (ap (take (f .shape .n * a .b)) whole ∙ front-take (f .shape .n * a .b) buffer new fits full);
+        room-is = ap (λ (m : ℕ). new ++ drop m room) (sym full);
+      }
 
 -- ---- a refused event
 
 -- its call would leave all as it was
-refused-step : (h : Held) (input : List ℕ) (e : Event) (q : ℕ) → q ≡ gate h input e → (q ≡ 0 → ⊥) → Step h (listed h input e) q h
-refused-step h input (Update f) q g ne = updated q _ (record { number = g; served = λ z. absurd (ne z); refused = λ _. refl })
-refused-step h input (Repair f) q g ne = repaired q _ (record { number = g; served = λ z. absurd (ne z); refused = λ _. refl })
-refused-step h input (Damage f) q g ne =
-    subst (Step h (listed h input (Damage f)) q) (damaged-same q h (f .node .0) (bytesOf input (f .block)) ne) (damaged g)
-refused-step h input (Decode f) q g ne = decoded q _ (record { number = g; served = λ z. absurd (ne z); refused = λ _. refl })
-refused-step h input (Reconfigure f) q g ne =
-    subst (Step h (listed h input (Reconfigure f)) q) (moved-same q h (h .params) (f .shape) _ ne)
-    (reconfigured q _ (record { number = g; served = λ z. absurd (ne z); refused = λ _. refl }))
+refused-step : (h : Held) (input : List ℕ) (serial : ℕ) (e : Event) (q : ℕ) → q ≡ gate h input serial e → (q ≡ 0 → ⊥)
+    → Step h (listed h input serial e) q h
+refused-step h input serial (Update f) q g ne = updated q _ _ (record { number = g; served = λ z. absurd (ne z); refused = λ _. (refl, refl) })
+refused-step h input serial (Repair f) q g ne = repaired q _ _ (record { number = g; served = λ z. absurd (ne z); refused = λ _. (refl, refl) })
+refused-step h input serial (Damage f) q g ne =
+    subst (Step h (listed h input serial (Damage f)) q) (damaged-same q h (f .node .0) (bytesOf input (f .block)) ne) (damaged g)
+refused-step h input serial (Decode f) q g ne = decoded q _ (record { number = g; served = λ z. absurd (ne z); refused = λ _. refl })
+refused-step h input serial (Reconfigure f) q g ne =
+    subst (Step h (listed h input serial (Reconfigure f)) q) (moved-same q h (h .params) (f .shape) _ _ ne)
+    (reconfigured q _ _ (record { number = g; served = λ z. absurd (ne z); refused = λ _. (refl, refl) }))
 
-refused-prints : (h : Held) (e : Event) → (answerOf (h .params) e ≡ 0 → ⊥) → Prints h e []
-refused-prints h (Update f) ne = refl
-refused-prints h (Repair f) ne = refl
-refused-prints h (Damage f) ne = refl
-refused-prints h (Decode f) ne = record { served = λ z. absurd (ne z); refused = λ _. refl }
-refused-prints h (Reconfigure f) ne = refl
+refused-prints : (h : Held) (serial : ℕ) (e : Event) → (answerOf (h .params) serial e ≡ 0 → ⊥) → Prints h serial e []
+refused-prints h serial (Update f) ne = refl
+refused-prints h serial (Repair f) ne = refl
+refused-prints h serial (Damage f) ne = refl
+refused-prints h serial (Decode f) ne = record { served = λ z. absurd (ne z); refused = λ _. refl }
+refused-prints h serial (Reconfigure f) ne = refl
 
 none-laid : (q : ℕ) (e : Event) (message codeword : List ℕ) → (q ≡ 0 → ⊥) → [] ≡ laid q e message codeword
 none-laid zero e message codeword ne = absurd (ne refl)
 none-laid (suc q) e message codeword ne = refl
 
-pub refused-applied : (q : ℕ) (a : Params) (input : List ℕ) (e : Event) (buffer room : List ℕ) → q ≡ answerOf a e → (q ≡ 0 → ⊥)
-    → EffectPost a input e buffer room (record { params = a; answer = q; printed = 0 }) buffer room
-refused-applied q a input e buffer room is ne =
+pub refused-applied : (q : ℕ) (a : Params) (input : List ℕ) (serial : ℕ) (e : Event) (buffer serials room : List ℕ) → q ≡ answerOf a serial e
+    → (q ≡ 0 → ⊥) → EffectPost a input serial e buffer serials room (record { params = a; answer = q; printed = 0 }) buffer serials room
+refused-applied q a input serial e buffer serials room is ne =
     record {
       answer-is = is;
       served = λ h.
-          let no : answerOf a e ≡ 0 → ⊥ = λ z. ne (is ∙ z) in
-          let g = answer-is-gate (heldIn a buffer) input e (front-full a buffer (h .valid) (h .record-room)) (h .found) in
-          quiet q a input e buffer room buffer (none-laid q e _ _ ne)
-          (unmoved a input e buffer [] (refused-prints (heldIn a buffer) e no) (refused-step (heldIn a buffer) input e (answerOf a e) g no));
-      refused = λ _. record { params-kept = refl; nothing-printed = refl; buffer-kept = refl; room-kept = refl };
+          let no : answerOf a serial e ≡ 0 → ⊥ = λ z. ne (is ∙ z) in
+          let held = heldIn a buffer serials in
+          let g = answer-is-gate held input serial e (front-full a buffer serials (h .valid) (h .record-room) (h .serials-room)) (h .found) in
+          quiet q a input serial e buffer serials room buffer serials (none-laid q e _ _ ne)
+          (unmoved a input serial e buffer serials [] (refused-prints held serial e no) (refused-step held input serial e (answerOf a serial e) g no));
+      refused = λ _. record { params-kept = refl; nothing-printed = refl; buffer-kept = refl; serials-kept = refl; room-kept = refl };
     }

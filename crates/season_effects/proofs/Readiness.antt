@@ -27,16 +27,16 @@ module _ (input : ℕ) (s : Span) (count : ℕ) where
         fails = λ t h. omega (arith, leb-false (s .at) (input - count) t, h .inside);
       }
 
-module _ (a : Params) (input : ℕ) (e : Event) (buffer room : ℕ) where
-  pub not-ready : (Ready a input e buffer room → ⊥) → Decided (Ready a input e buffer room) false
+module _ (a : Params) (input : ℕ) (e : Event) (buffer serials room : ℕ) where
+  pub not-ready : (Ready a input e buffer serials room → ⊥) → Decided (Ready a input e buffer serials room) false
   not-ready = decided-false _
 
   -- all else is in place: the event's block decides
-  pub ready-by : (t : Bool) (e′ : Event) → e ≡ e′ → Valid a → buffer ≡ 32768 → room ≡ 32768 → Decided (InFull a input e′) t
-      → Decided (Ready a input e buffer room) t
-  ready-by t e′ is v hb hr d =
-      subst⁻¹ (λ (e : Event). Decided (Ready a input e buffer room) t) is
+  pub ready-by : (t : Bool) (e′ : Event) → e ≡ e′ → Valid a → buffer ≡ 32768 → serials ≡ 32 → room ≡ 32768 → Decided (InFull a input e′) t
+      → Decided (Ready a input e buffer serials room) t
+  ready-by t e′ is v hb hs hr d =
+      subst⁻¹ (λ (e : Event). Decided (Ready a input e buffer serials room) t) is
       (record {
-        holds = λ h. record { valid = v; found = d .holds h; record-room = hb; work-room = hr };
+        holds = λ h. record { valid = v; found = d .holds h; record-room = hb; serials-room = hs; work-room = hr };
         fails = λ h r. d .fails h (r .found);
       })

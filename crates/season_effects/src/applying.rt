@@ -3,6 +3,7 @@ use super::Effect;
 use blocks::copy_block;
 use decoding::decode;
 use maintenance::repair;
+use params::NodeSet;
 use params::Params;
 use reconfiguration::reconfigure;
 use season_file::DamageFields;
@@ -11,6 +12,7 @@ use season_file::Event;
 use season_file::ReconfigureFields;
 use season_file::RepairFields;
 use season_file::UpdateFields;
+use serials::hand_on;
 use updates::update;
 ghost use mathlib.Core.Path.{_≡_};
 ghost use mathlib.Core.List.{List};
@@ -19,38 +21,57 @@ ghost use lib.ListN.{length};
 ghost use Rattle.gates.specs.Valid.{Valid};
 ghost use Rattle.season_answers.specs.Answers.{answerOf};
 ghost use Rattle.season_file.specs.declared.Event.the-variants.{Update, Repair, Damage, Decode, Reconfigure};
-ghost use Rattle.season_effects.specs.Effects.{Stretch, Ready, Taken};
+ghost use Rattle.season_effects.specs.Effects.{Stretch, Accepted, Ready, Taken};
 
 pub(crate) fn apply(
     a: Params,
     input: &[u8],
+    serial: u32,
     e: Event,
     codeword: &mut [u8],
+    serials: &mut [u32],
     room: &mut [u8],
 ) -> Effect
-    requires { ⌜ Ready a (length (now input)) e (length (now codeword)) (length (now room)) ⌝ }
-    requires { ⌜ answerOf a e ≡ 0 ⌝ }
-    ensures { λ r. ⌜ (r .answer ≡ 0) × Taken a (now (input .entry)) e (now (codeword .entry)) (now (room .entry)) r (now (codeword .exit)) (now (room .exit)) ⌝ }
+    requires { ⌜ Ready a (length (now input)) e (length (now codeword)) (length (now serials)) (length (now room)) ⌝ }
+    requires { ⌜ answerOf a serial e ≡ 0 ⌝ }
+    ensures { λ r. ⌜ (r .answer ≡ 0) × Taken a (now (input .entry)) serial e (now (codeword .entry)) (now (serials .entry)) (now (room .entry)) r (now (codeword .exit)) (now (serials .exit)) (now (room .exit)) ⌝ }
 {
     match e {
-        Event::Update(f) => apply_update(a, input, f, codeword),
-        Event::Repair(f) => apply_repair(a, f, codeword),
+        Event::Update(f) => apply_update(a, input, serial, f, codeword, serials),
+        Event::Repair(f) => apply_repair(a, f, codeword, serials),
         Event::Damage(f) => apply_damage(a, input, f, codeword),
         Event::Decode(f) => apply_decode(a, f, codeword, room),
-        Event::Reconfigure(f) => apply_reconfigure(a, input, f, codeword, room),
+        Event::Reconfigure(f) => apply_reconfigure(a, input, f, codeword, serials, room),
     }
 }
 
-fn apply_update(a: Params, input: &[u8], f: UpdateFields, codeword: &mut [u8]) -> Effect
+// All of W is reached.
+fn apply_update(
+    a: Params,
+    input: &[u8],
+    serial: u32,
+    f: UpdateFields,
+    codeword: &mut [u8],
+    serials: &mut [u32],
+) -> Effect
     requires { ⌜ Valid a ⌝ }
-    requires { ⌜ length (now codeword) ≡ 32768 ⌝ }
+    requires { ⌜ (length (now codeword) ≡ 32768) × (length (now serials) ≡ 32) ⌝ }
     requires { ⌜ Stretch (length (now input)) (f .change) (a .k * a .b) ⌝ }
-    ensures { λ r. ⌜ (r .answer ≡ 0) × ((room : List ℕ) → Taken a (now (input .entry)) (Update f) (now (codeword .entry)) room r (now (codeword .exit)) room) ⌝ }
+    ensures { λ r. ⌜ (r .answer ≡ 0) × ((room : List ℕ) → Taken a (now (input .entry)) serial (Update f) (now (codeword .entry)) (now (serials .entry)) room r (now (codeword .exit)) (now (serials .exit)) room) ⌝ }
 {
-    let length = a.n * a.b;
+    let nodes = a.n;
+    let length = nodes * a.b;
     let at = f.change.at;
     let end = at + f.change.count;
-    update(a, &mut codeword[..length], &input[at..end], f.to);
+    update(
+        a,
+        &mut codeword[..length],
+        &mut serials[..nodes],
+        &input[at..end],
+        f.to,
+        serial,
+        f.to,
+    );
     Effect {
         params: a,
         answer: 0,
@@ -58,13 +79,25 @@ fn apply_update(a: Params, input: &[u8], f: UpdateFields, codeword: &mut [u8]) -
     }
 }
 
-fn apply_repair(a: Params, f: RepairFields, codeword: &mut [u8]) -> Effect
+fn apply_repair(
+    a: Params,
+    f: RepairFields,
+    codeword: &mut [u8],
+    serials: &mut [u32],
+) -> Effect
     requires { ⌜ Valid a ⌝ }
-    requires { ⌜ length (now codeword) ≡ 32768 ⌝ }
-    ensures { λ r. ⌜ (r .answer ≡ 0) × ((input room : List ℕ) → Taken a input (Repair f) (now (codeword .entry)) room r (now (codeword .exit)) room) ⌝ }
+    requires { ⌜ (length (now codeword) ≡ 32768) × (length (now serials) ≡ 32) ⌝ }
+    ensures { λ r. ⌜ (r .answer ≡ 0) × ((input room : List ℕ) (serial : ℕ) → Taken a input serial (Repair f) (now (codeword .entry)) (now (serials .entry)) room r (now (codeword .exit)) (now (serials .exit)) room) ⌝ }
 {
-    let length = a.n * a.b;
-    repair(a, &mut codeword[..length], f.from, f.lost);
+    let nodes = a.n;
+    let length = nodes * a.b;
+    repair(
+        a,
+        &mut codeword[..length],
+        &mut serials[..nodes],
+        f.from,
+        f.lost,
+    );
     Effect {
         params: a,
         answer: 0,
@@ -72,13 +105,13 @@ fn apply_repair(a: Params, f: RepairFields, codeword: &mut [u8]) -> Effect
     }
 }
 
-// The node's block becomes the bytes given.
+// The node's block becomes the bytes given; its serial stays.
 fn apply_damage(a: Params, input: &[u8], f: DamageFields, codeword: &mut [u8]) -> Effect
     requires { ⌜ Valid a ⌝ }
     requires { ⌜ length (now codeword) ≡ 32768 ⌝ }
     requires { ⌜ Stretch (length (now input)) (f .block) (a .b) ⌝ }
-    requires { ⌜ answerOf a (Damage f) ≡ 0 ⌝ }
-    ensures { λ r. ⌜ (r .answer ≡ 0) × ((room : List ℕ) → Taken a (now (input .entry)) (Damage f) (now (codeword .entry)) room r (now (codeword .exit)) room) ⌝ }
+    requires { ⌜ Accepted a (Damage f) ⌝ }
+    ensures { λ r. ⌜ (r .answer ≡ 0) × ((room serials : List ℕ) (serial : ℕ) → Taken a (now (input .entry)) serial (Damage f) (now (codeword .entry)) serials room r (now (codeword .exit)) serials room) ⌝ }
 {
     let at = f.block.at;
     let end = at + f.block.count;
@@ -96,8 +129,8 @@ fn apply_damage(a: Params, input: &[u8], f: DamageFields, codeword: &mut [u8]) -
 fn apply_decode(a: Params, f: DecodeFields, codeword: &[u8], room: &mut [u8]) -> Effect
     requires { ⌜ Valid a ⌝ }
     requires { ⌜ (length (now codeword) ≡ 32768) × (length (now room) ≡ 32768) ⌝ }
-    requires { ⌜ answerOf a (Decode f) ≡ 0 ⌝ }
-    ensures { λ r. ⌜ (r .answer ≡ 0) × ((input : List ℕ) → Taken a input (Decode f) (now (codeword .entry)) (now (room .entry)) r (now (codeword .entry)) (now (room .exit))) ⌝ }
+    requires { ⌜ Accepted a (Decode f) ⌝ }
+    ensures { λ r. ⌜ (r .answer ≡ 0) × ((input serials : List ℕ) (serial : ℕ) → length serials ≡ 32 → Taken a input serial (Decode f) (now (codeword .entry)) serials (now (room .entry)) r (now (codeword .entry)) serials (now (room .exit))) ⌝ }
 {
     let length = a.n * a.b;
     let count = a.k * a.b;
@@ -109,33 +142,59 @@ fn apply_decode(a: Params, f: DecodeFields, codeword: &[u8], room: &mut [u8]) ->
     }
 }
 
-// The new record is made in the room and copied over the old one.
+// Makes room for the new serials, and lends it.
 fn apply_reconfigure(
     a: Params,
     input: &[u8],
     f: ReconfigureFields,
     codeword: &mut [u8],
+    serials: &mut [u32],
     room: &mut [u8],
 ) -> Effect
-    requires { ⌜ Ready a (length (now input)) (Reconfigure f) (length (now codeword)) (length (now room)) ⌝ }
-    requires { ⌜ answerOf a (Reconfigure f) ≡ 0 ⌝ }
-    ensures { λ r. ⌜ (r .answer ≡ 0) × Taken a (now (input .entry)) (Reconfigure f) (now (codeword .entry)) (now (room .entry)) r (now (codeword .exit)) (now (room .exit)) ⌝ }
+    requires { ⌜ Ready a (length (now input)) (Reconfigure f) (length (now codeword)) (length (now serials)) (length (now room)) ⌝ }
+    requires { ⌜ Accepted a (Reconfigure f) ⌝ }
+    ensures { λ r. ⌜ (r .answer ≡ 0) × ((serial : ℕ) → Taken a (now (input .entry)) serial (Reconfigure f) (now (codeword .entry)) (now (serials .entry)) (now (room .entry)) r (now (codeword .exit)) (now (serials .exit)) (now (room .exit))) ⌝ }
+{
+    let mut numbers = [0u32; 32];
+    reconfigure_within(a, input, f, codeword, serials, room, &mut numbers)
+}
+
+// The new record is made in the room and copied over the old one, and so are the new serials in theirs.
+fn reconfigure_within(
+    a: Params,
+    input: &[u8],
+    f: ReconfigureFields,
+    codeword: &mut [u8],
+    serials: &mut [u32],
+    room: &mut [u8],
+    numbers: &mut [u32],
+) -> Effect
+    requires { ⌜ Ready a (length (now input)) (Reconfigure f) (length (now codeword)) (length (now serials)) (length (now room)) ⌝ }
+    requires { ⌜ Accepted a (Reconfigure f) ⌝ }
+    requires { ⌜ length (now numbers) ≡ 32 ⌝ }
+    ensures { λ r. ⌜ (r .answer ≡ 0) × ((serial : ℕ) → Taken a (now (input .entry)) serial (Reconfigure f) (now (codeword .entry)) (now (serials .entry)) (now (room .entry)) r (now (codeword .exit)) (now (serials .exit)) (now (room .exit))) ⌝ }
 {
     let shape = f.shape;
-    let old = a.n * a.b;
-    let new = shape.n * a.b;
+    let nodes = a.n;
+    let new_nodes = shape.n;
+    let old = nodes * a.b;
+    let new = new_nodes * a.b;
     let at = f.message.at;
     let end = at + f.message.count;
     reconfigure(
         a,
         shape,
         &codeword[..old],
+        &serials[..nodes],
         f.from,
         f.to,
         &input[at..end],
         &mut room[..new],
+        &mut numbers[..new_nodes],
     );
     copy_block(codeword, &room[..new]);
+    let none = NodeSet(0);
+    hand_on(&numbers[..new_nodes], none, 0, &mut serials[..new_nodes]);
     Effect {
         params: Params {
             k: shape.k,

@@ -1,4 +1,5 @@
-// What an event of a season file does to the record in force, which stands at the front of a buffer of 32,768 bytes: a call of the code, or damage.
+// What an event of a season file does to the record in force, which stands at the front of a buffer of 32,768 bytes, and to the serials in force, at the front of
+// one of 32 numbers: a call of the code, or damage.
 mod applying;
 
 use applying::apply;
@@ -7,11 +8,9 @@ use season_answers::answer;
 use season_answers::record_length;
 use season_file::Event;
 use season_file::Span;
-ghost use mathlib.Core.Path.{_≡_};
 ghost use lib.ListN.{length};
 ghost use Rattle.base.specs.Decided.{Decided};
-ghost use Rattle.season_answers.specs.Answers.{answerOf};
-ghost use Rattle.season_effects.specs.Effects.{Stretch, Ready, EffectPost};
+ghost use Rattle.season_effects.specs.Effects.{Stretch, Accepted, Ready, EffectPost};
 
 // What an event leaves.
 pub struct Effect {
@@ -22,18 +21,20 @@ pub struct Effect {
     pub printed: usize,
 }
 
-// The event's answer and its effect, with room for a message or a new record: none where it is refused. The room has 32,768 bytes too; with other lengths, with
-// parameters that no set-up accepts, or where the event's block does not stand in the input in full, nothing is done.
+// The event's answer and its effect, with room for a message or a new record: none where it is refused. The serial is the event's number. The room has 32,768
+// bytes too; with other lengths, with parameters that no set-up accepts, or where the event's block does not stand in the input in full, nothing is done.
 pub fn take_effect(
     a: Params,
     input: &[u8],
+    serial: u32,
     e: Event,
     codeword: &mut [u8],
+    serials: &mut [u32],
     room: &mut [u8],
 ) -> Effect
-    ensures { λ r. ⌜ EffectPost a (now (input .entry)) e (now (codeword .entry)) (now (room .entry)) r (now (codeword .exit)) (now (room .exit)) ⌝ }
+    ensures { λ r. ⌜ EffectPost a (now (input .entry)) serial e (now (codeword .entry)) (now (serials .entry)) (now (room .entry)) r (now (codeword .exit)) (now (serials .exit)) (now (room .exit)) ⌝ }
 {
-    let number = answer(a, e);
+    let number = answer(a, serial, e);
     if number != 0 {
         return Effect {
             params: a,
@@ -41,8 +42,8 @@ pub fn take_effect(
             printed: 0,
         };
     }
-    if is_ready(a, input.len(), e, codeword.len(), room.len()) {
-        return apply(a, input, e, codeword, room);
+    if is_ready(a, input.len(), e, codeword.len(), serials.len(), room.len()) {
+        return apply(a, input, serial, e, codeword, serials, room);
     }
     Effect {
         params: a,
@@ -52,11 +53,21 @@ pub fn take_effect(
 }
 
 // Whether an accepted event can take effect.
-fn is_ready(a: Params, input: usize, e: Event, codeword: usize, room: usize) -> bool
-    requires { ⌜ answerOf a e ≡ 0 ⌝ }
-    ensures { λ r. ⌜ Decided (Ready a input e codeword room) r ⌝ }
+fn is_ready(
+    a: Params,
+    input: usize,
+    e: Event,
+    codeword: usize,
+    serials: usize,
+    room: usize,
+) -> bool
+    requires { ⌜ Accepted a e ⌝ }
+    ensures { λ r. ⌜ Decided (Ready a input e codeword serials room) r ⌝ }
 {
     if codeword != 32768 {
+        return false;
+    }
+    if serials != 32 {
         return false;
     }
     if room != 32768 {

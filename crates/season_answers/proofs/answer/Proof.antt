@@ -44,20 +44,20 @@ reconfigure-answer-requires c κs = search needs
 
 returns : tie.Need-returns
 returns c = let l = c .before .before .before .before in
-    update-answer _ _ _ _ _ (l .before .extent .ensures) (l .extent2 .ensures) _ (c .before .before .e .given .1) (c .update-gate .ensures)
+    update-answer _ _ _ _ _ _ (l .before .extent .ensures) (l .extent2 .ensures) _ (c .before .before .e .given .1) (c .update-gate .ensures)
 
 returns-2 : tie.Need-returns-2
-returns-2 c = repair-answer _ _ _ _ _ (c .before .before .before .before .before .extent .ensures) (c .before .before .e2 .given .1) (c .repair-gate .ensures)
+returns-2 c = repair-answer _ _ _ _ _ _ (c .before .before .before .before .before .extent .ensures) (c .before .before .e2 .given .1) (c .repair-gate .ensures)
 
 returns-3 : tie.Need-returns-3
-returns-3 c = damage-answer _ _ _ _ (c .before .before .e3 .given .1) (c .damage-gate .ensures)
+returns-3 c = damage-answer _ _ _ _ _ (c .before .before .e3 .given .1) (c .damage-gate .ensures)
 
 returns-4 : tie.Need-returns-4
 returns-4 c = let l = c .before .before .before .before in
-    decode-answer _ _ _ _ _ (l .before .extent .ensures) (l .extent2 .ensures) _ (c .before .before .e4 .given .1) (c .decode-gate .ensures)
+    decode-answer _ _ _ _ _ _ (l .before .extent .ensures) (l .extent2 .ensures) _ (c .before .before .e4 .given .1) (c .decode-gate .ensures)
 
 returns-5 : tie.Need-returns-5
-returns-5 c = c .reconfigure-answer .ensures ∙ sym (ap (answerOf _) (c .before .before .e5 .given .1))
+returns-5 c = c .reconfigure-answer .ensures _ ∙ sym (ap (answerOf _ _) (c .before .before .e5 .given .1))
 
 pub answer-spec : {M : Type 1} → statement M
 answer-spec =

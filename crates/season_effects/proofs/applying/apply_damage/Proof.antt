@@ -15,7 +15,7 @@ use Rattle.season_effects.proofs.applying.apply_damage.Tie as tie
 
 node : (c : tie.Start) → DamageAccepted (c .args .a .n) (c .args .f .node .0)
 unfolding answerOf
-node c = damage-accepted _ _ .0 (c .pre .1 .1 .1)
+node c = damage-accepted _ _ .0 (c .pre .1 .1 .1 .1)
 
 below : (c : tie.Start) → c .args .f .node .0 - 1 < c .args .a .n
 below c = omega (arith, node c .node-low, node c .node-high)

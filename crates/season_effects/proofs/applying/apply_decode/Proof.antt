@@ -37,7 +37,7 @@ returns : tie.Need-returns
 returns c =
     let s = c .before .before .before .before .before .before .before .before .before in (
       refl,
-      λ input. decode-applied (s .args .a) input (s .args .f) (now (s .args .codeword)) (now (s .args .room)) _ _ (s .pre .0) (s .pre .1 .0 .0) (s .pre .1 .0 .1)
+      decode-applied (s .args .a) (s .args .f) (now (s .args .codeword)) (now (s .args .room)) _ _ (s .pre .0) (s .pre .1 .0 .0) (s .pre .1 .0 .1)
           (s .pre .1 .1) (c .before .before .decode .kept .1 .1 .1 .0 ∙ sym (slice-aggregate-decode-2 (c .before .before .before))) (c .before .before .decode .ensures),
     )
 

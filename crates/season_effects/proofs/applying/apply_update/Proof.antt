@@ -1,4 +1,4 @@
--- The call on the record and the change. Assumes nothing.
+-- The call on the record, the serials and the change. Assumes nothing.
 use mathlib.Core.Path.{refl, sym, _∙_}
 use native.Mathlib.Omega.{arith}
 use denote.Ref.{now}
@@ -11,16 +11,22 @@ use Rattle.season_effects.proofs.applying.apply_update.Statement.{state
 use Rattle.season_effects.proofs.applying.apply_update.Tie as tie
 
 mul-length : tie.Need-mul-length
-mul-length c = n-fits (c .before .before .before .pre .0)
+mul-length c = n-fits (c .before .before .before .before .pre .0)
 
 add-end : tie.Need-add-end
 add-end c = search needs
 
 slice-relend-prefix-update : tie.Need-slice-relend-prefix-update
-slice-relend-prefix-update c = let s = c .before .before .before .before in omega (arith, s .pre .1 .0, blocks-room (s .args .a) (s .args .a .n) (s .pre .0) (omega arith))
+slice-relend-prefix-update c = let s = c .before .before .before .before .before in omega (arith, s .pre .1 .0 .0, blocks-room (s .args .a) (s .args .a .n) (s .pre .0) (omega arith))
 
 slice-aggregate-update : tie.Need-slice-aggregate-update
-slice-aggregate-update c = sym (length-take-le _ (now (c .before .before .before .before .before .args .codeword)) (slice-relend-prefix-update (c .before)))
+slice-aggregate-update c = sym (length-take-le _ (now (c .before .before .before .before .before .before .args .codeword)) (slice-relend-prefix-update (c .before)))
+
+slice-relend-prefix-update-2 : tie.Need-slice-relend-prefix-update-2
+slice-relend-prefix-update-2 c = let s = c .before .before .before .before .before .before in omega (arith, s .pre .1 .0 .1, s .pre .0 .shape .n-high)
+
+slice-aggregate-update-2 : tie.Need-slice-aggregate-update-2
+slice-aggregate-update-2 c = sym (length-take-le _ (now (c .before .before .before .before .before .before .before .args .serials)) (slice-relend-prefix-update-2 (c .before)))
 
 sub-update : tie.Need-sub-update
 sub-update c = search needs
@@ -37,12 +43,17 @@ update-requires c κs = search needs
 same-length : tie.Need-same-length
 same-length c = search needs
 
+same-length-2 : tie.Need-same-length-2
+same-length-2 c = search needs
+
 returns : tie.Need-returns
-returns c =
-    let s = c .before .before .before .before .before .before .before .before .before in (
+returns c = 
+    let s = c .before .before .before .before .before .before .before .before .before .before .before .before .before in
+    let u = c .before .before .before .before .update in (
       refl,
-      update-applied (s .args .a) (now (s .args .input)) (s .args .f) (now (s .args .codeword)) _ _ (s .pre .0) (s .pre .1 .0) (s .pre .1 .1)
-          (c .before .before .update .kept .1 .0 ∙ sym (slice-aggregate-update (c .before .before .before .before))) (c .before .before .update .ensures),
+      update-applied (s .args .a) (s .pre .0) (now (s .args .codeword)) (now (s .args .serials)) _ _ (s .pre .1 .0 .0) (s .pre .1 .0 .1)
+          (u .kept .1 .0 ∙ sym (slice-aggregate-update (c .before .before .before .before .before .before .before))) (u .kept .1 .1 .0 ∙ sym (slice-aggregate-update-2 (c .before .before .before .before .before .before)))
+          (now (s .args .input)) (s .args .serial) (s .args .f) _ (s .pre .1 .1) (u .ensures),
     )
 
 pub apply-update-spec : {M : Type 1} → statement M
@@ -53,9 +64,12 @@ apply-update-spec =
     add-end
     slice-relend-prefix-update
     slice-aggregate-update
+    slice-relend-prefix-update-2
+    slice-aggregate-update-2
     sub-update
     part-update-start
     part-update-end
     update-requires
     same-length
+    same-length-2
     returns)
