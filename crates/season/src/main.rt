@@ -24,20 +24,21 @@ fn main() {
     }
 }
 
-// Makes room for the record and for a line. The answer is whether all lines were written.
+// Makes room for the record, the serials and a line. The answer is whether all lines were written.
 fn run(input: &[u8]) -> bool {
     let mut codeword = [0u8; 32768];
+    let mut serials = [0u32; 32];
     let mut line = [0u8; 65600];
-    run_within(input, &mut codeword, &mut line)
+    run_within(input, &mut codeword, &mut serials, &mut line)
 }
 
 // Writes each turn's line until the run ends; after a write that fails it stops and answers no. That the calls are the right ones, to the end, is proved
 // (Printed); that their lines are written is tested.
-fn run_within(input: &[u8], codeword: &mut [u8], line: &mut [u8]) -> bool
-    requires { ⌜ Room (now codeword) (now line) ⌝ }
-    ensures { λ r. ⌜ Printed (now (input .entry)) (now (codeword .entry)) (now (line .entry)) r (now (codeword .exit)) (now (line .exit)) ⌝ }
+fn run_within(input: &[u8], codeword: &mut [u8], serials: &mut [u32], line: &mut [u8]) -> bool
+    requires { ⌜ Room (now codeword) (now serials) (now line) ⌝ }
+    ensures { λ r. ⌜ Printed (now (input .entry)) (now (codeword .entry)) (now (serials .entry)) (now (line .entry)) r (now (codeword .exit)) (now (serials .exit)) (now (line .exit)) ⌝ }
 {
-    let first = begin(input, codeword, line);
+    let first = begin(input, codeword, serials, line);
     if !show(first, line) {
         return false;
     }
@@ -47,7 +48,7 @@ fn run_within(input: &[u8], codeword: &mut [u8], line: &mut [u8]) -> bool
     };
     let mut s = state;
     loop {
-        let t = turn(input, s, codeword, line);
+        let t = turn(input, s, codeword, serials, line);
         if !show(t, line) {
             return false;
         }

@@ -79,12 +79,7 @@ fn apply_update(
     }
 }
 
-fn apply_repair(
-    a: Params,
-    f: RepairFields,
-    codeword: &mut [u8],
-    serials: &mut [u32],
-) -> Effect
+fn apply_repair(a: Params, f: RepairFields, codeword: &mut [u8], serials: &mut [u32]) -> Effect
     requires { ⌜ Valid a ⌝ }
     requires { ⌜ (length (now codeword) ≡ 32768) × (length (now serials) ≡ 32) ⌝ }
     ensures { λ r. ⌜ (r .answer ≡ 0) × ((input room : List ℕ) (serial : ℕ) → Taken a input serial (Repair f) (now (codeword .entry)) (now (serials .entry)) room r (now (codeword .exit)) (now (serials .exit)) room) ⌝ }

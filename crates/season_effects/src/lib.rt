@@ -53,14 +53,7 @@ pub fn take_effect(
 }
 
 // Whether an accepted event can take effect.
-fn is_ready(
-    a: Params,
-    input: usize,
-    e: Event,
-    codeword: usize,
-    serials: usize,
-    room: usize,
-) -> bool
+fn is_ready(a: Params, input: usize, e: Event, codeword: usize, serials: usize, room: usize) -> bool
     requires { ⌜ Accepted a e ⌝ }
     ensures { λ r. ⌜ Decided (Ready a input e codeword serials room) r ⌝ }
 {

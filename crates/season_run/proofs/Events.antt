@@ -8,10 +8,11 @@ use native.Mathlib.Omega.{arith}
 use lib.Dec.{ltb, eqb}
 use lib.ListN.{length, getD, drop, replicate}
 use borrow.Author.Tests.{ltb-false}
-use Rattle.base.proofs.Seq.{tabulate-zeros}
+use Rattle.base.proofs.Seq.{tabulate-zeros, zeros-at}
 use Rattle.field.specs.Field.{Bytes}
 use Rattle.field.proofs.Bytes.{bytes-tabulate, bytes-take, bytes-drop}
 use Rattle.params.specs.declared.Params.{Params}
+use Rattle.serials.specs.Serials.{Words32}
 use Rattle.ledger.specs.Ledger.{Held, Typed}
 use Rattle.season_file.specs.File.{numberAt, choiceAt, bytesOf, eventsCountAt, openingOf, eventAt, endOf, unknown, itemAt}
 use Rattle.season_file.specs.declared.Span.{Span}
@@ -29,6 +30,9 @@ use Rattle.season_effects.specs.Effects.{InFull}
 
 pub bytes-zeros : (n : ℕ) → Bytes (replicate n 0)
 bytes-zeros n = subst Bytes (tabulate-zeros n) (bytes-tabulate n (λ i. 0) (λ i hi. omega arith))
+
+pub words-zeros : (n : ℕ) → Words32 (replicate n 0)
+words-zeros n j = omega (arith, zeros-at n j)
 
 pub span-bytes : (input : List ℕ) (s : Span) → Bytes input → Bytes (bytesOf input s)
 span-bytes input s h = bytes-take (s .count) (drop (s .at) input) (bytes-drop (s .at) input h)
@@ -117,9 +121,17 @@ found-good a input at f e =
 
 -- ---- the list's event
 
-pub typed : (h : Held) (input : List ℕ) (e : Event) → Bytes input → Good (h .params) input e → Typed (listed h input e)
-typed h input (Update f) hb g = (tt, span-bytes input (f .change) hb, g .small hb)
-typed h input (Repair f) hb g = (tt, g .small hb .0, g .small hb .1)
-typed h input (Damage f) hb g = span-bytes input (f .block) hb
-typed h input (Decode f) hb g = (tt, bytes-zeros (h .params .k * h .params .b), g .small hb)
-typed h input (Reconfigure f) hb g = (tt, bytes-zeros (f .shape .n * h .params .b), span-bytes input (f .message) hb, g .small hb .0, g .small hb .1)
+pub typed : (h : Held) (input : List ℕ) (serial : ℕ) (e : Event) → Bytes input → serial < 2 ^ 32 → Good (h .params) input e
+    → Typed (listed h input serial e)
+typed h input serial (Update f) hb hs g = ((tt, tt), span-bytes input (f .change) hb, g .small hb, hs, g .small hb)
+typed h input serial (Repair f) hb hs g = ((tt, tt), g .small hb .0, g .small hb .1)
+typed h input serial (Damage f) hb hs g = span-bytes input (f .block) hb
+typed h input serial (Decode f) hb hs g = ((tt, tt), bytes-zeros (h .params .k * h .params .b), g .small hb)
+typed h input serial (Reconfigure f) hb hs g = (
+  (tt, tt),
+  bytes-zeros (f .shape .n * h .params .b),
+  words-zeros (f .shape .n),
+  span-bytes input (f .message) hb,
+  g .small hb .0,
+  g .small hb .1,
+)

@@ -1,9 +1,9 @@
 -- A season's output is determined by its input, and there is one for every input of bytes: each event has exactly one step and prints exactly one message,
--- and the count of events that are left falls with each turn. Every run keeps valid parameters in force and a record of n·b bytes. Assumes nothing.
+-- and the count of events that are left falls with each turn. Every run keeps valid parameters in force, a record of n·b bytes and n serials. Assumes nothing.
 use mathlib.Core.Path.{_≡_, refl, sym, ap, ap₂, _∙_, subst}
 use mathlib.Core.Logic.{⊎-elim}
 use mathlib.Core.List.{List, [], _++_}
-use Prim.Native.Nat.{ℕ, zero, suc, _*_}
+use Prim.Native.Nat.{ℕ, zero, suc, _+_, _*_, _≤_}
 use native.Mathlib.Omega.{arith}
 use lib.ListN.{length, take, replicate, length-replicate}
 use Rattle.base.proofs.Cases.{lt-or, eq-or}
@@ -34,7 +34,7 @@ use Rattle.season_file.specs.declared.Opening.the-variants as opening
 use Rattle.season_effects.specs.Events.{listed, Prints}
 use Rattle.season_run.specs.Season.{Tried, Place, Outcome, ended, on, Goes, over, leftover, faulty, tried, setUpAnswer, Opens, refused}
 use Rattle.season_run.specs.Season.{opened, Runs, done, turn, Season, season, FileOutput}
-use Rattle.season_run.proofs.Events.{span-bytes, bytes-zeros, found-good, typed}
+use Rattle.season_run.proofs.Events.{span-bytes, bytes-zeros, words-zeros, header-counted, found-good, typed}
 use Rattle.season_effects.proofs.Answered.{answered}
 
 -- ---- one message
@@ -54,26 +54,26 @@ decoded-exists h from z hb =
     let e = pair-exists (h .params) (g .valid) (used (h .params) from) (from-reads (h .params) from (g .valid) (g .from-within) (g .from-size)) (h .codeword) hb in
     (e .0, record { slack = e .1; gives = e .2 })
 
-prints-once : (h : Held) (e : Event) (x y : List ℕ) → Prints h e x → Prints h e y → x ≡ y
+prints-once : (h : Held) (serial : ℕ) (e : Event) (x y : List ℕ) → Prints h serial e x → Prints h serial e y → x ≡ y
 unfolding answerOf
-prints-once h (Update f) x y p q = p ∙ sym q
-prints-once h (Repair f) x y p q = p ∙ sym q
-prints-once h (Damage f) x y p q = p ∙ sym q
-prints-once h (Decode f) x y p q =
+prints-once h serial (Update f) x y p q = p ∙ sym q
+prints-once h serial (Repair f) x y p q = p ∙ sym q
+prints-once h serial (Damage f) x y p q = p ∙ sym q
+prints-once h serial (Decode f) x y p q =
     ⊎-elim (λ z. decoded-once h (f .from .0) x y z (p .served z) (q .served z)) (λ ne. p .refused ne ∙ sym (q .refused ne))
-    (eq-or (answerOf (h .params) (Decode f)) 0)
-prints-once h (Reconfigure f) x y p q = p ∙ sym q
+    (eq-or (answerOf (h .params) serial (Decode f)) 0)
+prints-once h serial (Reconfigure f) x y p q = p ∙ sym q
 
-prints-exists : (h : Held) (e : Event) → Bytes (h .codeword) → (x : List ℕ) × Prints h e x
+prints-exists : (h : Held) (serial : ℕ) (e : Event) → Bytes (h .codeword) → (x : List ℕ) × Prints h serial e x
 unfolding answerOf
-prints-exists h (Update f) hb = ([], refl)
-prints-exists h (Repair f) hb = ([], refl)
-prints-exists h (Damage f) hb = ([], refl)
-prints-exists h (Decode f) hb =
+prints-exists h serial (Update f) hb = ([], refl)
+prints-exists h serial (Repair f) hb = ([], refl)
+prints-exists h serial (Damage f) hb = ([], refl)
+prints-exists h serial (Decode f) hb =
     ⊎-elim
     (λ z. let d = decoded-exists h (f .from .0) z hb in (d .0, record { served = λ _. d .1; refused = λ ne. absurd (ne z) }))
-    (λ ne. ([], record { served = λ z. absurd (ne z); refused = λ _. refl })) (eq-or (answerOf (h .params) (Decode f)) 0)
-prints-exists h (Reconfigure f) hb = ([], refl)
+    (λ ne. ([], record { served = λ z. absurd (ne z); refused = λ _. refl })) (eq-or (answerOf (h .params) serial (Decode f)) 0)
+prints-exists h serial (Reconfigure f) hb = ([], refl)
 
 module _ (input : List ℕ) where
   -- ---- one turn
@@ -84,9 +84,10 @@ module _ (input : List ℕ) where
   tried-once : {h h′ h″ : Held} {number : ℕ} {e : Event} {line line′ : List ℕ} → Tried input h number e line h′ → Tried input h number e line′ h″
       → (line ≡ line′) × (h′ ≡ h″)
   tried-once {h = h} {number = number} {e = e} t t′ = (
-    t .line-is ∙ ap (lineOf number (kindOf e) (answerOf (h .params) e)) (prints-once h e (t .message) (t′ .message) (t .prints) (t′ .prints))
+    t .line-is
+        ∙ ap (lineOf number (kindOf e) (answerOf (h .params) number e)) (prints-once h number e (t .message) (t′ .message) (t .prints) (t′ .prints))
         ∙ sym (t′ .line-is),
-    step-unique h (listed h input e) (t .step) (t′ .step) .1,
+    step-unique h (listed h input number e) (t .step) (t′ .step) .1,
   )
 
   goes-once : {here : Place} {line line′ : List ℕ} {outcome outcome′ : Outcome} → Goes input here line outcome → Goes input here line′ outcome′
@@ -115,32 +116,37 @@ module _ (input : List ℕ) where
 
   -- ---- the opening
 
-  abbrev SetUp : Header → ℕ → List ℕ → Type 0
-  SetUp hd answer codeword =
-      EncodePost (hd .params) (bytesOf input (hd .message)) (bytesOf input (hd .slack)) (replicate (hd .params .n * hd .params .b) 0) answer codeword
+  abbrev SetUp : Header → ℕ → List ℕ → List ℕ → Type 0
+  SetUp hd answer codeword serials =
+      EncodePost (hd .params) (bytesOf input (hd .message)) (bytesOf input (hd .slack)) (replicate (hd .params .n * hd .params .b) 0)
+      (replicate (hd .params .n) 0) answer codeword serials
 
-  set-up-answer : (hd : Header) (answer : ℕ) (codeword : List ℕ) → SetUp hd answer codeword → answer ≡ setUpAnswer input hd
-  set-up-answer hd answer codeword post =
-      post .number ∙ ap (encodeGate (hd .params) (length (bytesOf input (hd .message))) (length (bytesOf input (hd .slack)))) (length-replicate {A = ℕ} _ 0)
+  set-up-answer : (hd : Header) (answer : ℕ) (codeword serials : List ℕ) → SetUp hd answer codeword serials → answer ≡ setUpAnswer input hd
+  set-up-answer hd answer codeword serials post =
+      post .number
+      ∙ ap₂ (encodeGate (hd .params) (length (bytesOf input (hd .message))) (length (bytesOf input (hd .slack)))) (length-replicate {A = ℕ} _ 0)
+      (length-replicate {A = ℕ} _ 0)
 
   opens-once : {line line′ : List ℕ} {outcome outcome′ : Outcome} → Opens input line outcome → Opens input line′ outcome′
       → Same line line′ outcome outcome′
   opens-once (faulty fault i) (faulty fault′ i′) = let e : fault ≡ fault′ = cc in (ap (λ (q : ℕ). lineOf 0 0 q []) e, refl)
   opens-once (faulty fault i) (refused hd i′ ne) = let q : _≡_ {A = ℕ} 0 1 = cc in absurd (omega arith)
-  opens-once (faulty fault i) (opened hd codeword i′ post) = let q : _≡_ {A = ℕ} 0 1 = cc in absurd (omega arith)
+  opens-once (faulty fault i) (opened hd codeword serials i′ post) = let q : _≡_ {A = ℕ} 0 1 = cc in absurd (omega arith)
   opens-once (refused hd i ne) (faulty fault i′) = let q : _≡_ {A = ℕ} 0 1 = cc in absurd (omega arith)
   opens-once (refused hd i ne) (refused hd′ i′ ne′) =
       let e : hd ≡ hd′ = cc in (ap (λ (hd : Header). lineOf 0 0 (setUpAnswer input hd) []) e, refl)
-  opens-once (refused hd i ne) (opened hd′ codeword i′ post) =
-      let e : hd ≡ hd′ = cc in absurd (ne (ap (setUpAnswer input) e ∙ sym (set-up-answer hd′ 0 codeword post)))
-  opens-once (opened hd codeword i post) (faulty fault i′) = let q : _≡_ {A = ℕ} 0 1 = cc in absurd (omega arith)
-  opens-once (opened hd codeword i post) (refused hd′ i′ ne) =
-      let e : hd ≡ hd′ = cc in absurd (ne (ap (setUpAnswer input) (sym e) ∙ sym (set-up-answer hd 0 codeword post)))
-  opens-once (opened hd codeword i post) (opened hd′ codeword′ i′ post′) =
+  opens-once (refused hd i ne) (opened hd′ codeword serials i′ post) =
+      let e : hd ≡ hd′ = cc in absurd (ne (ap (setUpAnswer input) e ∙ sym (set-up-answer hd′ 0 codeword serials post)))
+  opens-once (opened hd codeword serials i post) (faulty fault i′) = let q : _≡_ {A = ℕ} 0 1 = cc in absurd (omega arith)
+  opens-once (opened hd codeword serials i post) (refused hd′ i′ ne) =
+      let e : hd ≡ hd′ = cc in absurd (ne (ap (setUpAnswer input) (sym e) ∙ sym (set-up-answer hd 0 codeword serials post)))
+  opens-once (opened hd codeword serials i post) (opened hd′ codeword′ serials′ i′ post′) =
       let e : hd ≡ hd′ = cc in
-      let c =
-      encode-once (hd .params) (bytesOf input (hd .message)) (bytesOf input (hd .slack)) _ 0 0 codeword codeword′ post
-      (subst (λ (hd : Header). SetUp hd 0 codeword′) (sym e) post′) .1 in
+      let once =
+      encode-once (hd .params) (bytesOf input (hd .message)) (bytesOf input (hd .slack)) _ _ 0 0 codeword codeword′ serials serials′ post
+      (subst (λ (hd : Header). SetUp hd 0 codeword′ serials′) (sym e) post′) in
+      let c = once .1 in
+      let s = once .2 in
       (refl, cc)
 
   -- ---- the whole run
@@ -156,53 +162,65 @@ output-unique {input} (season o r) (season {rest = rest′} o′ r′) =
     let s = opens-once input o o′ in
     ap₂ _++_ (s .0) (runs-once input r (subst (λ (o : Outcome). Runs input o rest′) (sym (s .1)) r′))
 
+-- How a run stands: what is held is whole, and an event's number and the count of those left never add up to more than 65,536.
+abbrev pub Stands : Place → Type 0
+Stands here = Whole (here .stands) × (here .number + here .left ≤ 65536)
+
 module _ (input : List ℕ) (bytes : Bytes input) where
   -- ---- every run keeps a whole state
 
   -- the opening set-up is that of a list
   pub opens-history : {line : List ℕ} {here : Place} (hd : Header) → openingOf input ≡ opening.Whole hd → Opens input line (on here)
       → History [] (here .stands) (ledger.opened (hd .params) (bytesOf input (hd .message)))
-  opens-history hd i (opened hd′ codeword i′ post) =
+  opens-history hd i (opened hd′ codeword serials i′ post) =
       let e : hd′ ≡ hd = cc in
-      subst (λ (g : Header). History [] (begun (hd′ .params) codeword) (ledger.opened (g .params) (bytesOf input (g .message)))) e
+      subst (λ (g : Header). History [] (begun (hd′ .params) codeword serials) (ledger.opened (g .params) (bytesOf input (g .message)))) e
       (record {
         params = hd′ .params;
         message = bytesOf input (hd′ .message);
         slack = bytesOf input (hd′ .slack);
         buffer = replicate (hd′ .params .n * hd′ .params .b) 0;
+        numbers = replicate (hd′ .params .n) 0;
         codeword = codeword;
-        typed = (span-bytes input (hd′ .message) bytes, span-bytes input (hd′ .slack) bytes, bytes-zeros (hd′ .params .n * hd′ .params .b));
+        serials = serials;
+        typed =
+            (span-bytes input (hd′ .message) bytes, span-bytes input (hd′ .slack) bytes, bytes-zeros (hd′ .params .n * hd′ .params .b), words-zeros (hd′ .params .n));
         opening = post;
         run = ledger.done;
       })
 
-  pub opens-whole : {line : List ℕ} {here : Place} → Opens input line (on here) → Whole (here .stands)
-  opens-whole (opened hd codeword i post) = history-whole (opens-history hd i (opened hd codeword i post))
+  pub opens-stands : {line : List ℕ} {here : Place} → Opens input line (on here) → Stands here
+  opens-stands (opened hd codeword serials i post) = (
+    history-whole (opens-history hd i (opened hd codeword serials i post)),
+    omega (arith, header-counted input hd bytes i),
+  )
 
-  pub goes-whole : {line : List ℕ} {here here′ : Place} → Whole (here .stands) → Goes input here line (on here′) → Whole (here′ .stands)
-  goes-whole {here = here} w (tried more f line h′ z i t) =
+  pub goes-stands : {line : List ℕ} {here here′ : Place} → Stands here → Goes input here line (on here′) → Stands here′
+  goes-stands {here = here} (w, c) (tried more f line h′ z i t) =
       let h = here .stands in
-      step-whole h (listed h input (f .event)) w (typed h input (f .event) bytes (found-good (h .params) input (here .at) f i)) (t .step)
+      let ty = typed h input (here .number) (f .event) bytes (omega arith) (found-good (h .params) input (here .at) f i) in
+      (step-whole h (listed h input (here .number) (f .event)) w ty (t .step), omega arith)
 
   -- ---- there is an output
 
-  -- from a whole state where n events are left
+  -- from a state where n events are left
   abbrev pub RunsWith : ℕ → Type 0
-  RunsWith n = (here : Place) → here .left ≡ n → Whole (here .stands) → (rest : List ℕ) × Runs input (on here) rest
+  RunsWith n = (here : Place) → here .left ≡ n → Stands here → (rest : List ℕ) × Runs input (on here) rest
 
   runs-more : (n : ℕ) → RunsWith n → RunsWith (suc n)
-  runs-more n again here z w = go (itemAt (here .stands .params) input (here .at)) refl
+  runs-more n again here z (w, c) = go (itemAt (here .stands .params) input (here .at)) refl
     where
       go : (i : Item) → itemAt (here .stands .params) input (here .at) ≡ i → (rest : List ℕ) × Runs input (on here) rest
       go (item.Faulty f) i = (_, turn (faulty n f z i) done)
       go (item.Whole f) i =
           let h = here .stands in
+          let serial = here .number in
           let good = found-good (h .params) input (here .at) f i in
-          let p = prints-exists h (f .event) (w .bytes) in
-          let s = step-exists h (listed h input (f .event)) w (typed h input (f .event) bytes good) in
-          let st = answered h input (f .event) (w .length-is) (good .found) (s .2) in
+          let p = prints-exists h serial (f .event) (w .bytes) in
+          let s = step-exists h (listed h input serial (f .event)) w (typed h input serial (f .event) bytes (omega arith) good) in
+          let st = answered h input serial (f .event) (w .length-is, w .serials-length) (good .found) (s .2) in
           let g = tried n f _ (s .1) z i (record { message = p .0; prints = p .1; line-is = refl; step = st }) in
-          (_, turn g (again _ refl (goes-whole w g) .1))
+          (_, turn g (again _ refl (goes-stands (w, c) g) .1))
 
   pub runs-exist : (n : ℕ) → RunsWith n
   runs-exist zero here z w =
@@ -218,13 +236,15 @@ module _ (input : List ℕ) (bytes : Bytes input) where
           ⊎-elim
           (λ z.
           let m =
-          encode-met (hd .params) (bytesOf input (hd .message)) (bytesOf input (hd .slack)) (replicate (hd .params .n * hd .params .b) 0) in
-          (_, _, opened hd (m .1) i (subst (λ (q : ℕ). SetUp input hd q (m .1)) (set-up-answer input hd (m .0) (m .1) (m .2) ∙ z) (m .2))))
+          encode-met (hd .params) (bytesOf input (hd .message)) (bytesOf input (hd .slack)) (replicate (hd .params .n * hd .params .b) 0)
+          (replicate (hd .params .n) 0) in
+          let e = set-up-answer input hd (m .0) (m .1) (m .2) (m .3) ∙ z in
+          (_, _, opened hd (m .1) (m .2) i (subst (λ (q : ℕ). SetUp input hd q (m .1) (m .2)) e (m .3))))
           (λ ne. (_, _, refused hd i ne)) (eq-or (setUpAnswer input hd) 0)
 
   outcome-runs : (outcome : Outcome) {line : List ℕ} → Opens input line outcome → (rest : List ℕ) × Runs input outcome rest
   outcome-runs ended o = ([], done)
-  outcome-runs (on here) o = runs-exist (here .left) here refl (opens-whole o)
+  outcome-runs (on here) o = runs-exist (here .left) here refl (opens-stands o)
 
   -- .. and every input of bytes has one.
   pub output-exists : (output : List ℕ) × Season input output

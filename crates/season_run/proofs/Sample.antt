@@ -48,7 +48,8 @@ output =
 abbrev small : Params
 small = record { k = 1; r = 2; w = 2; n = 3; b = 1 }
 
-abbrev stands : List ℕ → Held
+-- what is held, with the record and the serials
+abbrev stands : List ℕ → List ℕ → Held
 stands = begun small
 
 -- the events
@@ -71,12 +72,17 @@ unfolding openingOf itemAt numberAt choiceAt lineOf decimal digitsBefore hexDigi
 sample =
     season
     (opened (record { params = small; message = record { at = 14; count = 1 }; slack = record { at = 17; count = 1 }; events = 5; at = 20 })
-    (0x06 ∷ 0x0a ∷ 0x0c ∷ []) refl (encode-by _ _ _ _ tt _ refl)) (
+    (0x06 ∷ 0x0a ∷ 0x0c ∷ []) (0 ∷ 0 ∷ 0 ∷ []) refl (encode-by _ _ _ _ _ tt _ _ refl refl)) (
     turn
-    (tried 4 (change 3 25 26) _ (stands (0x00 ∷ 0x0c ∷ 0x0c ∷ [])) refl refl
-    (record { message = []; prints = refl; line-is = refl; step = updated 0 (0x00 ∷ 0x0c ∷ 0x0c ∷ []) (update-by _ _ _ _ _ (0x03 ∷ []) tt) })) (
+    (tried 4 (change 3 25 26) _ (stands (0x00 ∷ 0x0c ∷ 0x0c ∷ []) (1 ∷ 1 ∷ 0 ∷ [])) refl refl
+    (record {
+      message = [];
+      prints = refl;
+      line-is = refl;
+      step = updated 0 (0x00 ∷ 0x0c ∷ 0x0c ∷ []) (1 ∷ 1 ∷ 0 ∷ []) (update-by _ _ _ _ _ _ _ _ _ (0x03 ∷ []) tt);
+    })) (
     turn
-    (tried 3 (reading 5 31) _ (stands (0x00 ∷ 0x0c ∷ 0x0c ∷ [])) refl refl
+    (tried 3 (reading 5 31) _ (stands (0x00 ∷ 0x0c ∷ 0x0c ∷ []) (1 ∷ 1 ∷ 0 ∷ [])) refl refl
     (record {
       message = 0x02 ∷ [];
       prints = record { served = λ _. decode-by _ _ _ _ (0x02 ∷ []) tt (0x00 ∷ []) refl .served refl; refused = λ ne. absurd (ne refl) };
@@ -84,12 +90,18 @@ sample =
       step = decoded 0 (0x02 ∷ []) (decode-by _ _ _ _ (0x02 ∷ []) tt _ refl);
     })) (
     turn
-    (tried 2 (change 5 36 37) _ (stands (0x03 ∷ 0x0c ∷ 0x0f ∷ [])) refl refl
-    (record { message = []; prints = refl; line-is = refl; step = updated 0 (0x03 ∷ 0x0c ∷ 0x0f ∷ []) (update-by _ _ _ _ _ (0x01 ∷ []) tt) })) (
+    (tried 2 (change 5 36 37) _ (stands (0x03 ∷ 0x0c ∷ 0x0f ∷ []) (3 ∷ 1 ∷ 3 ∷ [])) refl refl
+    (record {
+      message = [];
+      prints = refl;
+      line-is = refl;
+      step = updated 0 (0x03 ∷ 0x0c ∷ 0x0f ∷ []) (3 ∷ 1 ∷ 3 ∷ []) (update-by _ _ _ _ _ _ _ _ _ (0x01 ∷ []) tt);
+    })) (
     turn
-    (tried 1 blow _ (stands (0xff ∷ 0x0c ∷ 0x0f ∷ [])) refl refl (record { message = []; prints = refl; line-is = refl; step = damaged refl })) (
+    (tried 1 blow _ (stands (0xff ∷ 0x0c ∷ 0x0f ∷ []) (3 ∷ 1 ∷ 3 ∷ [])) refl refl
+    (record { message = []; prints = refl; line-is = refl; step = damaged refl })) (
     turn
-    (tried 0 (reading 6 45) _ (stands (0xff ∷ 0x0c ∷ 0x0f ∷ [])) refl refl
+    (tried 0 (reading 6 45) _ (stands (0xff ∷ 0x0c ∷ 0x0f ∷ []) (3 ∷ 1 ∷ 3 ∷ [])) refl refl
     (record {
       message = 0x00 ∷ [];
       prints = record { served = λ _. decode-by _ _ _ _ (0x03 ∷ []) tt (0x00 ∷ []) refl .served refl; refused = λ ne. absurd (ne refl) };

@@ -1,5 +1,5 @@
 -- The ledger machine along a season's run (document 01, "The ledger machine"): the list of the events so far, what the machine then holds, and what demand 3
--- asks of such a list. Assumes nothing.
+-- asks of such a list. What document 02, 2026-03, asks of the serials of a list is not asked here: it holds of every run (proofs/LedgerRun.antt). Assumes nothing.
 use mathlib.Core.Path.{_≡_}
 use mathlib.Core.List.{List, [], _∷_, _++_}
 use Prim.Native.Nat.{ℕ}
@@ -16,11 +16,11 @@ use Rattle.season_run.specs.Season.{Place, on, Opens, Goes}
 
 -- the event found at a place, as one of the list
 abbrev pub listedAt : List ℕ → Place → Found → Event
-listedAt input here f = listed (here .stands) input (f .event)
+listedAt input here f = listed (here .stands) input (here .number) (f .event)
 
 -- .. and the answer that it prints
 abbrev pub answerAt : Place → Found → ℕ
-answerAt here f = answerOf (here .stands .params) (f .event)
+answerAt here f = answerOf (here .stands .params) (here .number) (f .event)
 
 -- The run of the input got to a place: the list of the events tried so far, in order, and what the machine holds after them. The opening set-up, which puts
 -- the message in the ledger, stands before the list.
@@ -34,9 +34,9 @@ pub data Reached (input : List ℕ) : List Event → Place → Machine → Type 
 -- "Accepted rebuilds and rearrangements read undamaged traps only": R holds no damaged node of the machine, which has not yet taken the event.
 abbrev pub FromUndamaged : Machine → Event → Type 0
 FromUndamaged m (call g (repair from lost)) = Undamaged m from
-FromUndamaged m (call g (reconfigure t buffer x from to)) = Undamaged m from
+FromUndamaged m (call g (reconfigure t buffer numbers x from to)) = Undamaged m from
 FromUndamaged m (call g (encode x v)) = Unit {0}
-FromUndamaged m (call g (update d to)) = Unit {0}
+FromUndamaged m (call g (update d to serial reached)) = Unit {0}
 FromUndamaged m (call g (decode buffer from)) = Unit {0}
 FromUndamaged m (call g (delta d buffer to)) = Unit {0}
 FromUndamaged m (call g check) = Unit {0}

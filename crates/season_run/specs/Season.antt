@@ -26,12 +26,12 @@ use Rattle.season_run.specs.declared.Turn.{Turn}
 
 -- ---- one event
 
--- One event is tried: its line, and what is then held. The answer printed is that of the step.
+-- One event is tried: its line, and what is then held. Its number is the serial. The answer printed is that of the step.
 pub record Tried (input : List ℕ) (h : Held) (number : ℕ) (e : Event) (line : List ℕ) (h′ : Held) : Type 0 where
   pub message : List ℕ
-  pub prints : Prints h e message
-  pub line-is : line ≡ lineOf number (kindOf e) (answerOf (h .params) e) message
-  pub step : Step h (listed h input e) (answerOf (h .params) e) h′
+  pub prints : Prints h number e message
+  pub line-is : line ≡ lineOf number (kindOf e) (answerOf (h .params) number e) message
+  pub step : Step h (listed h input number e) (answerOf (h .params) number e) h′
 
 -- ---- one turn
 
@@ -60,18 +60,19 @@ pub data Goes (input : List ℕ) (here : Place) : List ℕ → Outcome → Type 
 -- "The set-up prints first, as event 0, kind 0; if refused, the run ends."
 abbrev pub setUpAnswer : List ℕ → Header → ℕ
 setUpAnswer input hd =
-    encodeGate (hd .params) (length (bytesOf input (hd .message))) (length (bytesOf input (hd .slack))) (hd .params .n * hd .params .b)
+    encodeGate (hd .params) (length (bytesOf input (hd .message))) (length (bytesOf input (hd .slack))) (hd .params .n * hd .params .b) (hd .params .n)
 
 pub data Opens (input : List ℕ) : List ℕ → Outcome → Type 0 where
   faulty : (fault : ℕ) → openingOf input ≡ opening.Faulty fault → Opens input (lineOf 0 0 fault []) ended
   refused : (hd : Header) → openingOf input ≡ opening.Whole hd → (setUpAnswer input hd ≡ 0 → ⊥)
       → Opens input (lineOf 0 0 (setUpAnswer input hd) []) ended
-  opened : (hd : Header) (codeword : List ℕ) → openingOf input ≡ opening.Whole hd
-      → EncodePost (hd .params) (bytesOf input (hd .message)) (bytesOf input (hd .slack)) (replicate (hd .params .n * hd .params .b) 0) 0 codeword
+  opened : (hd : Header) (codeword serials : List ℕ) → openingOf input ≡ opening.Whole hd
+      → EncodePost (hd .params) (bytesOf input (hd .message)) (bytesOf input (hd .slack)) (replicate (hd .params .n * hd .params .b) 0)
+      (replicate (hd .params .n) 0) 0 codeword serials
       → Opens input (lineOf 0 0 0 [])
       (on
       (record {
-        stands = begun (hd .params) codeword;
+        stands = begun (hd .params) codeword serials;
         number = 1;
         left = hd .events;
         at = hd .at;
@@ -94,46 +95,56 @@ FileOutput file output = Season (take 65535 file) output
 
 -- ---- the contracts of the two functions
 
-abbrev pub placeOf : State → List ℕ → Place
-placeOf s buffer = record { stands = heldIn (s .params) buffer; number = s .number; left = s .left; at = s .at }
+abbrev pub placeOf : State → List ℕ → List ℕ → Place
+placeOf s buffer serials = record { stands = heldIn (s .params) buffer serials; number = s .number; left = s .left; at = s .at }
 
-abbrev pub outcomeOf : Next → List ℕ → Outcome
-outcomeOf next.End buffer = ended
-outcomeOf (next.On s) buffer = on (placeOf s buffer)
+abbrev pub outcomeOf : Next → List ℕ → List ℕ → Outcome
+outcomeOf next.End buffer serials = ended
+outcomeOf (next.On s) buffer serials = on (placeOf s buffer serials)
 
--- where the record in force ends
+-- where the record in force ends, and where the serials do
 abbrev pub recordEnd : Next → ℕ
 recordEnd next.End = 0
 recordEnd (next.On s) = s .params .n * s .params .b
 
--- room for the largest record, and for the longest line
-pub record Room (buffer line : List ℕ) : Type 0 where
+abbrev pub serialsEnd : Next → ℕ
+serialsEnd next.End = 0
+serialsEnd (next.On s) = s .params .n
+
+-- room for the largest record, for the serials of as many nodes, and for the longest line
+pub record Room (buffer serials line : List ℕ) : Type 0 where
   pub record-room : length buffer ≡ 32768
+  pub serials-room : length serials ≡ 32
   pub line-room : length line ≡ 65600
 
--- a turn with the given line and outcome, in the buffers: behind record and line they are as they were, and at the run's end the record's buffer is as it was
-pub record Turned (Result : List ℕ → Outcome → Type 0) (buffer line : List ℕ) (t : Turn) (buffer′ line′ : List ℕ) : Type 0 where
+-- a turn with the given line and outcome, in the buffers: behind record, serials and line they are as they were, and at the run's end the first two are as they
+-- were
+pub record Turned (Result : List ℕ → Outcome → Type 0) (buffer serials line : List ℕ) (t : Turn) (buffer′ serials′ line′ : List ℕ) : Type 0 where
   pub text : List ℕ
-  pub result : Result text (outcomeOf (t .next) buffer′)
+  pub result : Result text (outcomeOf (t .next) buffer′ serials′)
   pub wrote : Wrote text line (t .written) line′
   pub length-is : length buffer′ ≡ length buffer
   pub rest : drop (recordEnd (t .next)) buffer′ ≡ drop (recordEnd (t .next)) buffer
+  pub serials-length : length serials′ ≡ length serials
+  pub serials-rest : drop (serialsEnd (t .next)) serials′ ≡ drop (serialsEnd (t .next)) serials
 
 -- nothing is done with buffers of other lengths, or from a state with parameters that no set-up accepts or a number above 65,536
-pub record Idle (buffer line : List ℕ) (t : Turn) (buffer′ line′ : List ℕ) : Type 0 where
+pub record Idle (buffer serials line : List ℕ) (t : Turn) (buffer′ serials′ line′ : List ℕ) : Type 0 where
   pub ends : t ≡ record { written = 0; next = next.End }
   pub buffer-kept : buffer′ ≡ buffer
+  pub serials-kept : serials′ ≡ serials
   pub line-kept : line′ ≡ line
 
-pub record BeginPost (input buffer line : List ℕ) (t : Turn) (buffer′ line′ : List ℕ) : Type 0 where
-  pub served : Room buffer line → Turned (Opens input) buffer line t buffer′ line′
-  pub refused : (Room buffer line → ⊥) → Idle buffer line t buffer′ line′
+pub record BeginPost (input buffer serials line : List ℕ) (t : Turn) (buffer′ serials′ line′ : List ℕ) : Type 0 where
+  pub served : Room buffer serials line → Turned (Opens input) buffer serials line t buffer′ serials′ line′
+  pub refused : (Room buffer serials line → ⊥) → Idle buffer serials line t buffer′ serials′ line′
 
 -- what a turn can start from: valid parameters in force, and an event number that can be counted on
 pub record Standing (s : State) : Type 0 where
   pub valid : Valid (s .params)
   pub countable : s .number ≤ 65536
 
-pub record TurnPost (input : List ℕ) (s : State) (buffer line : List ℕ) (t : Turn) (buffer′ line′ : List ℕ) : Type 0 where
-  pub served : Room buffer line × Standing s → Turned (Goes input (placeOf s buffer)) buffer line t buffer′ line′
-  pub refused : (Room buffer line × Standing s → ⊥) → Idle buffer line t buffer′ line′
+pub record TurnPost (input : List ℕ) (s : State) (buffer serials line : List ℕ) (t : Turn) (buffer′ serials′ line′ : List ℕ) : Type 0 where
+  pub served
+      : Room buffer serials line × Standing s → Turned (Goes input (placeOf s buffer serials)) buffer serials line t buffer′ serials′ line′
+  pub refused : (Room buffer serials line × Standing s → ⊥) → Idle buffer serials line t buffer′ serials′ line′

@@ -1,5 +1,5 @@
-// A season's run (document 01, "The season program"), one event at a time: the record in force stands in a buffer that the caller lends, and so does the
-// line that a turn prints.
+// A season's run (document 01, "The season program"), one event at a time: the record in force stands in a buffer that the caller lends, and so do the serials and
+// the line that a turn prints.
 pub mod beginning;
 pub mod turning;
 
@@ -15,7 +15,7 @@ ghost use Rattle.season_run.specs.declared.Next.the-variants.{End};
 pub struct State {
     // the parameters in force
     pub params: Params,
-    // the next event's number
+    // the next event's number, which is the serial of a change
     pub number: usize,
     // events that are left, by the file's count
     pub left: usize,

@@ -19,11 +19,20 @@ ghost use Rattle.season_file.specs.File.{itemAt};
 ghost use Rattle.season_file.specs.declared.Item.the-variants.{Whole};
 ghost use Rattle.season_run.specs.Season.{Goes, placeOf, Room, Turned, Standing, TurnPost};
 
-// Tries the next event: its line, and the record as it leaves it, in buffers of the lengths that `begin` asks. After the last event the run ends.
-pub fn turn(input: &[u8], s: State, codeword: &mut [u8], line: &mut [u8]) -> Turn
-    ensures { λ r. ⌜ TurnPost (now (input .entry)) s (now (codeword .entry)) (now (line .entry)) r (now (codeword .exit)) (now (line .exit)) ⌝ }
+// Tries the next event: its line, and the record and the serials as it leaves them, in buffers of the lengths that `begin` asks. After the last event the run ends.
+pub fn turn(
+    input: &[u8],
+    s: State,
+    codeword: &mut [u8],
+    serials: &mut [u32],
+    line: &mut [u8],
+) -> Turn
+    ensures { λ r. ⌜ TurnPost (now (input .entry)) s (now (codeword .entry)) (now (serials .entry)) (now (line .entry)) r (now (codeword .exit)) (now (serials .exit)) (now (line .exit)) ⌝ }
 {
     if codeword.len() != 32768 {
+        return idle();
+    }
+    if serials.len() != 32 {
         return idle();
     }
     if line.len() != 65600 {
@@ -35,21 +44,27 @@ pub fn turn(input: &[u8], s: State, codeword: &mut [u8], line: &mut [u8]) -> Tur
     if 65536 < s.number {
         return idle();
     }
-    turn_within(input, s, codeword, line)
+    turn_within(input, s, codeword, serials, line)
 }
 
 // The same from a state that a turn can start from.
-fn turn_within(input: &[u8], s: State, codeword: &mut [u8], line: &mut [u8]) -> Turn
-    requires { ⌜ Room (now codeword) (now line) ⌝ }
+fn turn_within(
+    input: &[u8],
+    s: State,
+    codeword: &mut [u8],
+    serials: &mut [u32],
+    line: &mut [u8],
+) -> Turn
+    requires { ⌜ Room (now codeword) (now serials) (now line) ⌝ }
     requires { ⌜ Standing s ⌝ }
-    ensures { λ r. ⌜ Turned (Goes (now (input .entry)) (placeOf s (now (codeword .entry)))) (now (codeword .entry)) (now (line .entry)) r (now (codeword .exit)) (now (line .exit)) ⌝ }
+    ensures { λ r. ⌜ Turned (Goes (now (input .entry)) (placeOf s (now (codeword .entry)) (now (serials .entry)))) (now (codeword .entry)) (now (serials .entry)) (now (line .entry)) r (now (codeword .exit)) (now (serials .exit)) (now (line .exit)) ⌝ }
 {
     if s.left == 0 {
         return finish(input, s, line);
     }
     match parse(s.params, input, s.at) {
         Item::Faulty(f) => last_line(input, line, s.number, f.kind, f.number),
-        Item::Whole(f) => try_event(input, s, f, codeword, line),
+        Item::Whole(f) => try_event(input, s, f, codeword, serials, line),
     }
 }
 
@@ -57,7 +72,7 @@ fn turn_within(input: &[u8], s: State, codeword: &mut [u8], line: &mut [u8]) -> 
 fn finish(input: &[u8], s: State, line: &mut [u8]) -> Turn
     requires { ⌜ 64 ≤ length (now line) ⌝ }
     requires { ⌜ s .left ≡ 0 ⌝ }
-    ensures { λ r. ⌜ ((buffer : List ℕ) → Turned (Goes (now (input .entry)) (placeOf s buffer)) buffer (now (line .entry)) r buffer (now (line .exit))) ⌝ }
+    ensures { λ r. ⌜ ((buffer serials : List ℕ) → Turned (Goes (now (input .entry)) (placeOf s buffer serials)) buffer serials (now (line .entry)) r buffer serials (now (line .exit))) ⌝ }
 {
     if input.len() <= s.at {
         return idle();
@@ -66,35 +81,44 @@ fn finish(input: &[u8], s: State, line: &mut [u8]) -> Turn
 }
 
 // The event is whole: makes room for a message or a new record, and lends it.
-fn try_event(input: &[u8], s: State, found: Found, codeword: &mut [u8], line: &mut [u8]) -> Turn
-    requires { ⌜ Room (now codeword) (now line) ⌝ }
+fn try_event(
+    input: &[u8],
+    s: State,
+    found: Found,
+    codeword: &mut [u8],
+    serials: &mut [u32],
+    line: &mut [u8],
+) -> Turn
+    requires { ⌜ Room (now codeword) (now serials) (now line) ⌝ }
     requires { ⌜ Standing s ⌝ }
     requires { ⌜ 0 < s .left ⌝ }
     requires { ⌜ itemAt (s .params) (now input) (s .at) ≡ Whole found ⌝ }
-    ensures { λ r. ⌜ Turned (Goes (now (input .entry)) (placeOf s (now (codeword .entry)))) (now (codeword .entry)) (now (line .entry)) r (now (codeword .exit)) (now (line .exit)) ⌝ }
+    ensures { λ r. ⌜ Turned (Goes (now (input .entry)) (placeOf s (now (codeword .entry)) (now (serials .entry)))) (now (codeword .entry)) (now (serials .entry)) (now (line .entry)) r (now (codeword .exit)) (now (serials .exit)) (now (line .exit)) ⌝ }
 {
     let mut room = [0u8; 32768];
-    try_within(input, s, found, codeword, line, &mut room)
+    try_within(input, s, found, codeword, serials, line, &mut room)
 }
 
-// Its answer and effect, its line.
+// Its answer and effect, its line. Its number is the serial.
 fn try_within(
     input: &[u8],
     s: State,
     found: Found,
     codeword: &mut [u8],
+    serials: &mut [u32],
     line: &mut [u8],
     room: &mut [u8],
 ) -> Turn
-    requires { ⌜ Room (now codeword) (now line) ⌝ }
+    requires { ⌜ Room (now codeword) (now serials) (now line) ⌝ }
     requires { ⌜ Standing s ⌝ }
     requires { ⌜ 0 < s .left ⌝ }
     requires { ⌜ itemAt (s .params) (now input) (s .at) ≡ Whole found ⌝ }
     requires { ⌜ length (now room) ≡ 32768 ⌝ }
-    ensures { λ r. ⌜ Turned (Goes (now (input .entry)) (placeOf s (now (codeword .entry)))) (now (codeword .entry)) (now (line .entry)) r (now (codeword .exit)) (now (line .exit)) ⌝ }
+    ensures { λ r. ⌜ Turned (Goes (now (input .entry)) (placeOf s (now (codeword .entry)) (now (serials .entry)))) (now (codeword .entry)) (now (serials .entry)) (now (line .entry)) r (now (codeword .exit)) (now (serials .exit)) (now (line .exit)) ⌝ }
 {
     let event = found.event;
-    let effect = take_effect(s.params, input, event, codeword, room);
+    let serial = s.number as u32;
+    let effect = take_effect(s.params, input, serial, event, codeword, serials, room);
     let params = effect.params;
     let printed = effect.printed;
     let written = write_line(

@@ -67,7 +67,7 @@ enum-known-e-3 : tie.Need-enum-known-e-3
 enum-known-e-3 c = search needs
 
 mul-is-stretch-2 : tie.Need-mul-is-stretch-2
-mul-is-stretch-2 c = 
+mul-is-stretch-2 c =
     let s = c .before .before .before .before .before .before .before .before .before .before in
     k-fits (new-valid (s .args .a) _ (subst (Accepted (s .args .a)) (c .before .before .before .e3 .given .1) (s .pre)))
 

@@ -1,5 +1,5 @@
 -- A refused event leaves all as it was; of an accepted one the test decides. Assumes nothing.
-use mathlib.Core.Path.{refl, sym, _∙_}
+use mathlib.Core.Path.{refl}
 use native.Mathlib.Omega.{arith}
 use denote.Ref.{now}
 use Rattle.season_effects.proofs.Applied.{refused-applied}
@@ -11,7 +11,7 @@ answer-requires : tie.Need-answer-requires
 answer-requires c κs = search needs
 
 returns : tie.Need-returns
-returns c = 
+returns c =
     let s = c .before .before .before .before .before .before in
     refused-applied _ (s .args .a) (now (s .args .input)) (s .args .serial) (s .args .e) (now (s .args .codeword)) (now (s .args .serials)) (now (s .args .room))
     (c .before .answer .ensures) (λ z. omega (arith, z, c .if1 .taken))
@@ -35,13 +35,13 @@ same-length-3 : tie.Need-same-length-3
 same-length-3 c = search needs
 
 returns-2 : tie.Need-returns-2
-returns-2 c = 
+returns-2 c =
     let q = apply-requires (c .before .before .before .before .before .before .before) (c .before .before .before .before .before .before .before .before .before .before .before .before .before .before .before .before .before .before .κs) in
     let r = c .before .before .before .before .before .before .apply in
-    record { answer-is = r .ensures .0 ∙ sym (q .1); served = λ _. r .ensures .1; refused = λ ne. absurd (ne (q .0)) }
+    record { answer-is = omega (arith, r .ensures .0, q .1); served = λ _. r .ensures .1; refused = λ ne. absurd (ne (q .0)) }
 
 returns-3 : tie.Need-returns-3
-returns-3 c = 
+returns-3 c =
     record {
       answer-is = omega (arith, c .before .before .before .answer .ensures, c .before .before .if1 .left);
       served = λ h. absurd (c .before .is-ready .ensures .fails (c .if2 .left) h);

@@ -32,7 +32,7 @@ enum-known-e-3 : tie.Need-enum-known-e-3
 enum-known-e-3 c = search needs
 
 apply-damage-requires : tie.Need-apply-damage-requires
-apply-damage-requires c κs = 
+apply-damage-requires c κs =
     let s = c .before .before .before .before .before .before .before .before in
     let is = c .before .before .e3 .given .1 in (s .pre .0 .valid, (s .pre .0 .record-room, (found s _ is, accepted s _ is)))
 
@@ -40,14 +40,14 @@ enum-known-e-4 : tie.Need-enum-known-e-4
 enum-known-e-4 c = search needs
 
 apply-decode-requires : tie.Need-apply-decode-requires
-apply-decode-requires c κs = 
+apply-decode-requires c κs =
     let s = c .before .before .before .before .before .before .before .before .before in (s .pre .0 .valid, ((s .pre .0 .record-room, s .pre .0 .work-room), accepted s _ (c .before .before .before .e4 .given .1)))
 
 enum-known-e-5 : tie.Need-enum-known-e-5
 enum-known-e-5 c = search needs
 
 apply-reconfigure-requires : tie.Need-apply-reconfigure-requires
-apply-reconfigure-requires c κs = 
+apply-reconfigure-requires c κs =
     let s = c .before .before .before .before .before .before .before .before .before .before in
     let p = s .pre .0 in
     let is = c .before .before .before .before .e5 .given .1 in (
@@ -62,7 +62,7 @@ same-length-2 : tie.Need-same-length-2
 same-length-2 c = search needs
 
 returns : tie.Need-returns
-returns c = 
+returns c =
     let s = c .before .before .before .before .before .before .before .before .before .before .before .before .before .before in
     let r = c .before .before .before .before .apply-update in (
       r .ensures .0,
@@ -80,7 +80,7 @@ same-length-4 : tie.Need-same-length-4
 same-length-4 c = search needs
 
 returns-2 : tie.Need-returns-2
-returns-2 c = 
+returns-2 c =
     let s = c .before .before .before .before .before .before .before .before .before .before .before .before .before .before in
     let r = c .before .before .before .before .apply-repair in (
       r .ensures .0,
@@ -95,7 +95,7 @@ same-length-5 : tie.Need-same-length-5
 same-length-5 c = search needs
 
 returns-3 : tie.Need-returns-3
-returns-3 c = 
+returns-3 c =
     let s = c .before .before .before .before .before .before .before .before .before .before .before in
     let r = c .before .before .apply-damage in (
       r .ensures .0,
@@ -113,7 +113,7 @@ same-length-7 : tie.Need-same-length-7
 same-length-7 c = search needs
 
 returns-4 : tie.Need-returns-4
-returns-4 c = 
+returns-4 c =
     let s = c .before .before .before .before .before .before .before .before .before .before .before .before in
     let r = c .before .before .apply-decode in (
       r .ensures .0,
@@ -134,7 +134,7 @@ same-length-10 : tie.Need-same-length-10
 same-length-10 c = search needs
 
 returns-5 : tie.Need-returns-5
-returns-5 c = 
+returns-5 c =
     let s = c .before .before .before .before .before .before .before .before .before .before .before .before .before .before .before .before .before in
     let r = c .before .before .before .before .before .before .apply-reconfigure in (
       r .ensures .0,

@@ -68,7 +68,7 @@ reconfigure-requires : tie.Need-reconfigure-requires
 reconfigure-requires c κs = search needs
 
 slice-reshare-prefix-copy-block : tie.Need-slice-reshare-prefix-copy-block
-slice-reshare-prefix-copy-block c = 
+slice-reshare-prefix-copy-block c =
     let s = c .before .before .before .before .before .before .before .before .before .before .before .before .before .before .before .before .before .before .before .before in
     let u = c .before .before .before .before .before .reconfigure in
     omega (
@@ -86,7 +86,7 @@ copy-block-requires : tie.Need-copy-block-requires
 copy-block-requires c κs = search needs
 
 slice-reshare-prefix-hand-on : tie.Need-slice-reshare-prefix-hand-on
-slice-reshare-prefix-hand-on c = 
+slice-reshare-prefix-hand-on c =
     let s = c .before .before .before .before .before .before .before .before .before .before .before .before .before .before .before .before .before .before .before .before .before .before .before .before in
     let u = c .before .before .before .before .before .before .before .before .before .reconfigure in
     omega (
@@ -122,7 +122,7 @@ same-length-4 : tie.Need-same-length-4
 same-length-4 c = search needs
 
 returns : tie.Need-returns
-returns c = 
+returns c =
     let s = c .before .before .before .before .before .before .before .before .before .before .before .before .before .before .before .before .before .before .before .before .before .before .before .before .before .before .before .before .before in
     let u = c .before .before .before .before .before .before .before .before .before .before .before .before .before .before .reconfigure in (
       refl,

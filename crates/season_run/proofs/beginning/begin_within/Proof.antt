@@ -20,17 +20,15 @@ enum-known-header : tie.Need-enum-known-header
 enum-known-header c = search needs
 
 set-up-requires : tie.Need-set-up-requires
-set-up-requires c κs =
-    let s = c .before .before .before .before .before .before .before .before .before in
-    (sym (c .before .before .before .before .before .«open» .ensures) ∙ c .before .before .before .header .given .1, s .pre)
+set-up-requires c κs = (sym (c .before .before .before .before .before .before .«open» .ensures) ∙ c .before .before .before .before .header .given .1, c .before .before .before .before .before .before .before .before .before .before .before .pre)
 
 same-length : tie.Need-same-length
 same-length c = search needs
 
 returns : tie.Need-returns
 returns c =
-    let s = c .before .before .before .before .before .before .before .before .before .before .before in
-    ended-turn (Opens (now (s .args .input))) 0 0 _ (now (s .args .codeword)) (now (s .args .line)) _ _ (c .before .before .last-line .ensures)
+    let s = c .before .before .before .before .before .before .before .before .before .before .before .before in
+    ended-turn (Opens (now (s .args .input))) 0 0 _ (now (s .args .codeword)) (now (s .args .serials)) (now (s .args .line)) _ _ (c .before .before .last-line .ensures)
     (faulty _ (sym (c .before .before .before .before .before .before .before .«open» .ensures) ∙ c .before .before .before .before .before .fault .given .1))
 
 same-length-2 : tie.Need-same-length-2
@@ -38,6 +36,9 @@ same-length-2 c = search needs
 
 same-length-3 : tie.Need-same-length-3
 same-length-3 c = search needs
+
+same-length-4 : tie.Need-same-length-4
+same-length-4 c = search needs
 
 returns-2 : tie.Need-returns-2
 returns-2 c = search needs
@@ -55,4 +56,5 @@ begin-within-spec =
     returns
     same-length-2
     same-length-3
+    same-length-4
     returns-2)

@@ -16,7 +16,7 @@ same-length : tie.Need-same-length
 same-length c = search needs
 
 returns : tie.Need-returns
-returns c = c .before .before .finish .ensures (now (c .before .before .before .before .before .before .before .before .before .args .codeword))
+returns c = let s = c .before .before .before .before .before .before .before .before .before .before in c .before .before .finish .ensures (now (s .args .codeword)) (now (s .args .serials))
 
 parse-requires : tie.Need-parse-requires
 parse-requires c κs = search needs
@@ -32,15 +32,9 @@ enum-known-f-2 c = search needs
 
 try-event-requires : tie.Need-try-event-requires
 try-event-requires c κs =
-    let s = c .before .before .before .before .before .before .before .before .before .before .before in (
+    let s = c .before .before .before .before .before .before .before .before .before .before .before .before .before in (
       s .pre .0,
-      (
-        s .pre .1,
-        (
-          omega (arith, c .before .before .before .before .before .before .if1 .left),
-          sym (c .before .before .before .before .before .parse .ensures) ∙ c .before .before .before .f2 .given .1,
-        ),
-      ),
+      (s .pre .1, (omega (arith, c .before .before .before .before .before .before .before .if1 .left), sym (c .before .before .before .before .before .before .parse .ensures) ∙ c .before .before .before .before .f2 .given .1)),
     )
 
 same-length-2 : tie.Need-same-length-2
@@ -48,16 +42,20 @@ same-length-2 c = search needs
 
 returns-2 : tie.Need-returns-2
 returns-2 c =
-    let s = c .before .before .before .before .before .before .before .before .before .before .before .before .before in
-    ended-turn (Goes (now (s .args .input)) (placeOf (s .args .s) (now (s .args .codeword)))) (s .args .s .number) _ _ (now (s .args .codeword)) (now (s .args .line)) _ _
-    (c .before .before .last-line .ensures) (faulty (s .args .s .left - 1) _ (omega (arith, c .before .before .before .before .before .before .before .before .if1 .left))
-    (sym (c .before .before .before .before .before .before .before .parse .ensures) ∙ c .before .before .before .before .before .f .given .1))
+    let s = c .before .before .before .before .before .before .before .before .before .before .before .before .before .before in
+    let buffer = now (s .args .codeword) in
+    let serials = now (s .args .serials) in
+    ended-turn (Goes (now (s .args .input)) (placeOf (s .args .s) buffer serials)) (s .args .s .number) _ _ buffer serials (now (s .args .line)) _ _
+    (c .before .before .last-line .ensures) (faulty (s .args .s .left - 1) _ (omega (arith, c .before .before .before .before .before .before .before .before .if1 .left)) (sym (c .before .before .before .before .before .before .before .parse .ensures) ∙ c .before .before .before .before .before .f .given .1))
 
 same-length-3 : tie.Need-same-length-3
 same-length-3 c = search needs
 
 same-length-4 : tie.Need-same-length-4
 same-length-4 c = search needs
+
+same-length-5 : tie.Need-same-length-5
+same-length-5 c = search needs
 
 returns-3 : tie.Need-returns-3
 returns-3 c = search needs
@@ -78,4 +76,5 @@ turn-within-spec =
     returns-2
     same-length-3
     same-length-4
+    same-length-5
     returns-3)
