@@ -1,5 +1,5 @@
--- What a decode gives, from the pair's uniqueness: the message that was encoded, the same through every set of r nodes. Of these only the q lowest count, to a
--- repair and a reconfigure too. Assumes nothing.
+-- What a decode gives, from the pair's uniqueness: the message that was encoded, the same through every set of r nodes. Of these only the blocks of the q
+-- lowest count, to the blocks of a repair and a reconfigure too. Assumes nothing.
 use mathlib.Core.Path.{_≡_, refl, sym, ap, _∙_}
 use mathlib.Core.Bool.{true}
 use mathlib.Core.List.{List}

@@ -127,7 +127,8 @@ pub record Reconfigured (a : Params) (t : Shape) (old : List ℕ) (from to : ℕ
   pub written : (j p : ℕ) → j < t .n → writes a to (suc j) ≡ true → p < a .b → cell (a .b) new j p ≡ block (reshaped a t) x slack (suc j) p
   pub copied : (j p : ℕ) → j < t .n → writes a to (suc j) ≡ false → p < a .b → cell (a .b) new j p ≡ cell (a .b) old j p
 
--- The buffers lent are the new record's and the new serials'; the old serials are only read too.
+-- The buffers lent are the new record's and the new serials'; the old serials are only read too. ".. newly written traps take the highest serial in R; copied traps
+-- .. keep theirs" (document 02, 2026-03).
 abbrev pub ReconfigurePost : Params → Shape → List ℕ → List ℕ → ℕ → ℕ → List ℕ → List ℕ → List ℕ → ℕ → List ℕ → List ℕ → Type 0
 ReconfigurePost a t old serials from to x buffer numbers answer new serials′ =
     Post (reconfigureGate a t (length old) (length serials) (length buffer) (length numbers) (length x) from to) answer

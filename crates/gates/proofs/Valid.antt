@@ -290,16 +290,16 @@ pub view-number : (a : Params) (codeword i : ℕ)
 unfolding viewGate
 view-number a codeword i = among _
 
-pub reconfigure-accepted : (a : Params) (t : Shape) (old serials new newSerials message from to : ℕ)
-    → (reconfigureGate a t old serials new newSerials message from to ≡ 0) ↔ ReconfigureAccepted a t old serials new newSerials message from to
+pub reconfigure-accepted : (a : Params) (t : Shape) (old serials new numbers message from to : ℕ)
+    → (reconfigureGate a t old serials new numbers message from to ≡ 0) ↔ ReconfigureAccepted a t old serials new numbers message from to
 unfolding reconfigureGate
-reconfigure-accepted a t old serials new newSerials message from to = (
+reconfigure-accepted a t old serials new numbers message from to = (
   λ e.
       let p = params-known a (all-yes _ tt e) in
       let y = shape-known 10 t (p .1) in
       let u =
-      both-known (eqb serials (a .n) && eqb newSerials (t .n)) ((eqb old (a .n * a .b) && eqb new (t .n * a .b)) && eqb message (t .k * a .b)) (y .1 .0) in
-      let kept = both-eq serials (a .n) newSerials (t .n) (u .0) in
+      both-known (eqb serials (a .n) && eqb numbers (t .n)) ((eqb old (a .n * a .b) && eqb new (t .n * a .b)) && eqb message (t .k * a .b)) (y .1 .0) in
+      let kept = both-eq serials (a .n) numbers (t .n) (u .0) in
       let l = both-known (eqb old (a .n * a .b) && eqb new (t .n * a .b)) (eqb message (t .k * a .b)) (u .1) in
       let records = both-eq old (a .n * a .b) new (t .n * a .b) (l .0) in
       let names = both-known (within (a .n) from) (within (t .n) to) (y .1 .1 .0) in
@@ -310,7 +310,7 @@ reconfigure-accepted a t old serials new newSerials message from to = (
         old-length = records .0;
         serials-length = kept .0;
         new-length = records .1;
-        new-serials-length = kept .1;
+        numbers-length = kept .1;
         message-length = eqb-true message (t .k * a .b) (l .1);
         from-within = names .0;
         to-within = names .1;
@@ -321,7 +321,7 @@ reconfigure-accepted a t old serials new newSerials message from to = (
       first-zero _
       (params-yes a (d .valid)
       (shape-yes 10 t (d .valid-new .shape) (
-        ap₂ _&&_ (ap₂ _&&_ (eq-eqb _ _ (d .serials-length)) (eq-eqb _ _ (d .new-serials-length)))
+        ap₂ _&&_ (ap₂ _&&_ (eq-eqb _ _ (d .serials-length)) (eq-eqb _ _ (d .numbers-length)))
             (ap₂ _&&_ (ap₂ _&&_ (eq-eqb _ _ (d .old-length)) (eq-eqb _ _ (d .new-length))) (eq-eqb _ _ (d .message-length))),
         (
           ap₂ _&&_ (d .from-within) (d .to-within),
@@ -330,7 +330,7 @@ reconfigure-accepted a t old serials new newSerials message from to = (
       ))),
 )
 
-pub reconfigure-number : (a : Params) (t : Shape) (old serials new newSerials message from to : ℕ)
-    → List·Memᴰ (reconfigureGate a t old serials new newSerials message from to) (0 ∷ 1 ∷ 2 ∷ 3 ∷ 4 ∷ 5 ∷ 11 ∷ 12 ∷ 13 ∷ 14 ∷ 6 ∷ 7 ∷ 8 ∷ [])
+pub reconfigure-number : (a : Params) (t : Shape) (old serials new numbers message from to : ℕ)
+    → List·Memᴰ (reconfigureGate a t old serials new numbers message from to) (0 ∷ 1 ∷ 2 ∷ 3 ∷ 4 ∷ 5 ∷ 11 ∷ 12 ∷ 13 ∷ 14 ∷ 6 ∷ 7 ∷ 8 ∷ [])
 unfolding reconfigureGate
-reconfigure-number a t old serials new newSerials message from to = among _
+reconfigure-number a t old serials new numbers message from to = among _

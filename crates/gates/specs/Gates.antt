@@ -95,13 +95,13 @@ repairGate a codeword serials from lost =
 unfoldable pub viewGate : Params → ℕ → ℕ → ℕ
 viewGate a codeword i = firstNo (paramsAsked a ++ lengthsAsked (eqb codeword (a .n * a .b)) ∷ nodeAsked (a .n) i ∷ [])
 
--- "rearrangement 11 to 14 before 6, then 7, 8", with the lengths of record and serials, the old and the new ones, and of the new message, R and W'
+-- "rearrangement 11 to 14 before 6, then 7, 8", with the lengths of record and serials, the old ones and those of the buffers for the new (new, numbers), and of the new message, R and W'
 unfoldable pub reconfigureGate : Params → Shape → ℕ → ℕ → ℕ → ℕ → ℕ → ℕ → ℕ → ℕ
-reconfigureGate a t old serials new newSerials message from to =
+reconfigureGate a t old serials new numbers message from to =
     firstNo
     ((paramsAsked a ++ shapeAsked 10 t) ++
     lengthsAsked
-    ((eqb serials (a .n) && eqb newSerials (t .n)) && ((eqb old (a .n * a .b) && eqb new (t .n * a .b)) && eqb message (t .k * a .b))) ∷
+    ((eqb serials (a .n) && eqb numbers (t .n)) && ((eqb old (a .n * a .b) && eqb new (t .n * a .b)) && eqb message (t .k * a .b))) ∷
     namesAsked (within (a .n) from && within (t .n) to) ∷ sizesAsked (eqb (size from) (a .r) && eqb (size to) (t .w)) ∷ [])
 
 -- "A damage event puts only 10."

@@ -77,13 +77,13 @@ pub record ViewAccepted (a : Params) (codeword i : ℕ) : Type 0 where
   pub codeword-length : codeword ≡ a .n * a .b
   pub node : DamageAccepted (a .n) i
 
-pub record ReconfigureAccepted (a : Params) (t : Shape) (old serials new newSerials message from to : ℕ) : Type 0 where
+pub record ReconfigureAccepted (a : Params) (t : Shape) (old serials new numbers message from to : ℕ) : Type 0 where
   pub valid : Valid a
   pub valid-new : Valid (reshaped a t)
   pub old-length : old ≡ a .n * a .b
   pub serials-length : serials ≡ a .n
   pub new-length : new ≡ t .n * a .b
-  pub new-serials-length : newSerials ≡ t .n
+  pub numbers-length : numbers ≡ t .n
   pub message-length : message ≡ t .k * a .b
   pub from-within : within (a .n) from ≡ true
   pub to-within : within (t .n) to ≡ true

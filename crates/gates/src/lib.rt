@@ -182,12 +182,12 @@ pub fn reconfigure_gate(
     old: usize,
     serials: usize,
     new: usize,
-    fresh: usize,
+    numbers: usize,
     message: usize,
     from: NodeSet,
     to: NodeSet,
 ) -> u32
-    ensures { λ r. ⌜ r ≡ reconfigureGate a t old serials new fresh message (from .0) (to .0) ⌝ }
+    ensures { λ r. ⌜ r ≡ reconfigureGate a t old serials new numbers message (from .0) (to .0) ⌝ }
 {
     let old_shape = params_gate(a);
     let new_shape = params_gate(Params {
@@ -204,7 +204,7 @@ pub fn reconfigure_gate(
         return new_shape + 10;
     }
     answers_gate(
-        ((serials == a.n) & (fresh == t.n))
+        ((serials == a.n) & (numbers == t.n))
             & ((old == a.n * a.b) & (new == t.n * a.b) & (message == t.k * a.b)),
         from.within(a.n) & to.within(t.n),
         (from.size() == a.r) & (to.size() == t.w),

@@ -1,4 +1,4 @@
--- The library's functions for C and Rust, on numbers and bytes: what they write beside the calls' own buffers. Assumes nothing.
+-- The library's functions for C and Rust, on numbers and slices: what they write beside the calls' own buffers. Assumes nothing.
 use mathlib.Core.Path.{_≡_}
 use mathlib.Core.List.{List}
 use Prim.Native.Nat.{ℕ, _-_, _*_}

@@ -1,4 +1,4 @@
-// The library for C and Rust: each call on plain numbers and byte slices, under a name of its own. A slice is a pointer and a length there.
+// The library for C and Rust: each call on plain numbers and slices, under a name of its own. A slice is a pointer and a length there.
 // Answers are document 01's numbers.
 use code::Verdict;
 use decoding::decode;

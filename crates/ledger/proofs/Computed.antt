@@ -21,7 +21,7 @@ use Rattle.gates.specs.Gates.{encodeGate, decodeGate, deltaGate, updateGate, re
 use Rattle.params.specs.declared.Params.{Params}
 use Rattle.params.specs.declared.Shape.{Shape}
 use Rattle.params.proofs.Sets.{has-le}
-use Rattle.serials.specs.Serials.{Words, takes, highest, Stamped}
+use Rattle.serials.specs.Serials.{Words32, takes, highest, Stamped}
 use Rattle.serials.proofs.Laws.{stamped-by}
 use Rattle.code.specs.Code.{Parts, block, Gives, used, upTo}
 use Rattle.code.specs.Calls.{Post, EncodePost, DecodePost, Vanishes, DeltaPost, UpdatePost, RepairPost, writes, ReconfigurePost, Same, CheckPost}
@@ -79,7 +79,7 @@ bytes xs = under 256 xs (omega arith)
 abbrev pub words? : List ℕ → Bool
 words? = under? (2 ^ 32)
 
-pub words : (xs : List ℕ) → T (words? xs) → Words xs
+pub words : (xs : List ℕ) → T (words? xs) → Words32 xs
 words xs = under (2 ^ 32) xs (omega arith)
 
 -- ---- pairs

@@ -1,10 +1,10 @@
--- The customer's three demands, and the law of the broken send, on one page. Demands 1 and 2 are the contracts of the calls (src/ of the crates views, encoding, decoding, updates, maintenance, reconfiguration
--- and matrix): each is proved to meet the post-condition named here, for all arguments (view_status answers viewGate). This page says what such a post-condition
+-- The customer's three demands, and the law of the broken send, on one page. Demands 1 and 2 are the contracts of the calls (src/ of the crates views, encoding,
+-- decoding, updates, maintenance, reconfiguration and matrix): each is proved to meet the post-condition named here, for all arguments (view_status answers viewGate). This page says what such a post-condition
 -- settles, and states demand 3 and that law. Assumes nothing.
 use mathlib.Core.Path.{_≡_, refl, sym}
 use mathlib.Core.List.{List, [], _∷_}
 use mathlib.Core.Logic.{_↔_}
-use mathlib.Core.Bool.{true}
+use mathlib.Core.Bool.{Bool, true, false, _||_}
 use Prim.Native.Nat.{ℕ, suc, _<_}
 use lib.ListN.{length, getD}
 use Rattle.base.specs.Gate.{firstNo}
@@ -25,7 +25,8 @@ use Rattle.gates.proofs.Valid.{encode-accepted, decode-accepted}
 use Rattle.code.proofs.Determined.{Met, Once, BothMet, BothOnce, encode-met, encode-once, decode-met, decode-once, delta-met, delta-once, update-met, update-once, repair-met}
 use Rattle.code.proofs.Determined.{repair-once, reconfigure-met, reconfigure-once, check-met, check-once, view-met, view-once}
 use Rattle.code.proofs.Theorems.{SameAt, decode-encode, gives-same}
-use Rattle.code.proofs.Sends.{Covers, Sendings, resend, resend-whole}
+use Rattle.code.specs.Sends.{Sendings, reachedBy, Covers}
+use Rattle.code.proofs.Sends.{send-accepted, resend, resend-whole}
 use Rattle.ledger.specs.Ledger.{Held, Machine, Event, History, Reading}
 use Rattle.ledger.proofs.Demand3 as D3
 
@@ -136,10 +137,10 @@ demand-2-back a message slack old numbers codeword serials left buffer out from 
     (set-up .served refl .0)
     (record { slack = reading .served refl .slack; gives = gives-same a from (λ j p hj s hp. sym (same j p hj s hp)) (reading .served refl .gives) })
 
--- 3. For every list that documents 01 and 02 allow (History: it opens with an accepted set-up; each accepted change is a send of the change that its serial had
--- before, or begins one, under a higher serial and with none open; accepted rebuilds and rearrangements read undamaged nodes, between closed changes) and every
--- accepted reading after it through undamaged nodes, between closed changes (Reading): the bytes read are the ledger's, in which all sends under one serial count
--- once, ..
+-- 3. For every list of History: it opens with an accepted set-up; each accepted change is a send of the change that its serial had before, or begins one, under a
+-- higher serial and with none open; accepted rebuilds and rearrangements read undamaged nodes, between closed changes. (Documents 01 and 02 ask this and no more but
+-- one thing, which is not needed: that a closed change is not sent again once anything else was written.) And for every accepted reading after it through undamaged
+-- nodes, between closed changes (Reading): the bytes read are the ledger's, in which all sends under one serial count once, ..
 pub demand-3 : {events : List Event} {h : Held} {m : Machine} {out : List ℕ} → History events h m → Reading h m out → out ≡ m .ledger
 demand-3 = D3.reading-is-ledger
 
@@ -155,15 +156,30 @@ pub demand-3-equal : {events events′ : List Event} {h h′ : Held} {m m′ : M
 demand-3-equal = D3.readings-equal
 
 -- "Whichever traps had it before the drop, sending the same change to all w again, with nothing else written between, must give the record of one whole change"
--- (document 02, 2026-03). After any sends of one change (Sendings), a send that reaches all of W (Covers) leaves record and serials as it would have done alone, ..
-pub broken-send : {a : Params} {d old serials mid serials₁ new serials₂ : List ℕ} {to serial : ℕ} (reached : ℕ) → Covers reached to
-    → Sendings a d to serial old serials mid serials₁ → UpdatePost a d to serial reached mid serials₁ 0 new serials₂
-    → UpdatePost a d to serial reached old serials 0 new serials₂
-broken-send = resend
+-- (document 02, 2026-03). A change that was accepted is accepted again; ..
+pub broken-send-accepted : {a : Params} {d old serials new serials₁ : List ℕ} {to serial reached : ℕ}
+    → UpdatePost a d to serial reached old serials 0 new serials₁ → updateGate a (length new) (length serials₁) (length d) to serial ≡ 0
+broken-send-accepted = send-accepted
+
+-- .. after any number of sends of one change to whichever nodes (Sendings), a send that reaches all of W leaves the record and the serials that one send to all of W
+-- would have left, ..
+pub broken-send : {a : Params} {d old serials mid serials₁ new serials₂ : List ℕ} {to serial : ℕ} (sends : Sendings a d to serial old serials mid serials₁)
+    (reached : ℕ) → Covers (has reached) to → UpdatePost a d to serial reached mid serials₁ 0 new serials₂
+    → UpdatePost a d to serial to old serials 0 new serials₂
+broken-send sends reached all = resend sends reached (λ i e. either (reachedBy sends i) (has reached i) (all i e))
+  where
+    either : (x y : Bool) → y ≡ true → (x || y) ≡ true
+    either true y e = refl
+    either false y e = e
+
+-- .. also where it reaches but those that were missed, so that all of them together reach W; ..
+pub broken-send-rest : {a : Params} {d old serials mid serials₁ new serials₂ : List ℕ} {to serial : ℕ} (sends : Sendings a d to serial old serials mid serials₁)
+    (reached : ℕ) → Covers (λ i. reachedBy sends i || has reached i) to → UpdatePost a d to serial reached mid serials₁ 0 new serials₂
+    → UpdatePost a d to serial to old serials 0 new serials₂
+broken-send-rest = resend
 
 -- .. and that, where the change was new to W, is the change of document 01: the differences are added to W's blocks, and W's nodes have the serial.
-pub broken-send-whole : {a : Params} {d old serials mid serials₁ new serials₂ : List ℕ} {to serial : ℕ} (reached : ℕ) → Covers reached to
-    → ((j : ℕ) → j < a .n → has to (suc j) ≡ true → getD serials j 0 < serial) → Sendings a d to serial old serials mid serials₁
-    → UpdatePost a d to serial reached mid serials₁ 0 new serials₂
-    → Updated a old d to (has to) new × Stamped (a .n) (has to) serial serials serials₂
+pub broken-send-whole : {a : Params} {d old serials mid serials₁ new serials₂ : List ℕ} {to serial : ℕ} (sends : Sendings a d to serial old serials mid serials₁)
+    (reached : ℕ) → Covers (λ i. reachedBy sends i || has reached i) to → ((j : ℕ) → j < a .n → has to (suc j) ≡ true → getD serials j 0 < serial)
+    → UpdatePost a d to serial reached mid serials₁ 0 new serials₂ → Updated a old d to (has to) new × Stamped (a .n) (has to) serial serials serials₂
 broken-send-whole = resend-whole

@@ -64,10 +64,17 @@ change-again = on-held (update (0x05 ∷ []) 0b011 1 0b111)
 abbrev first-rebuild : Event
 first-rebuild = on-held (repair 0b110 0b001)
 
+-- node 3 is damaged and rebuilt from nodes 1 and 2, whose serial it takes: 00 0C 0C, serials 1 1 1
+abbrev other-blow : Event
+other-blow = damage 3 (0xff ∷ [])
+
+abbrev handing-rebuild : Event
+handing-rebuild = on-held (repair 0b011 0b100)
+
 abbrev checking : Event
 checking = on-held check
 
--- ---- refused, each kind once
+-- ---- refused, each kind
 
 -- the slack is too long: 6
 abbrev bad-set-up : Event
@@ -115,11 +122,11 @@ bad-blow = damage 4 (0xff ∷ [])
 abbrev blow : Event
 blow = damage 1 (0xff ∷ [])
 
--- change 05 through nodes 1 and 2 leaves F9 0A 0C, serials 2 2 0, and node 1 damaged
+-- change 05 through nodes 1 and 2 leaves F9 0A 0C, serials 2 2 1, and node 1 damaged
 abbrev change-over : Event
 change-over = on-held (update (0x05 ∷ []) 0b011 2 0b011)
 
--- node 1 is rebuilt: 06 0A 0C, serials 2 2 0
+-- node 1 is rebuilt: 06 0A 0C, serials 2 2 1
 abbrev rebuild : Event
 rebuild = on-held (repair 0b110 0b001)
 
@@ -165,18 +172,20 @@ abbrev spare-rearrangement : Event
 spare-rearrangement =
     on-spare (reconfigure (record { k = 1; r = 3; w = 2; n = 3 }) (0x00 ∷ 0x00 ∷ 0x00 ∷ []) (0 ∷ 0 ∷ 0 ∷ []) (0x05 ∷ []) 0b101 0b110)
 
--- the change of serial 2 once more: it moves nobody, and the ledger has counted it
-abbrev late-send : Event
-late-send = call (record { params = record { k = 1; r = 3; w = 2; n = 3; b = 1 }; codeword = held; serials = held }) (update (0x05 ∷ []) 0b011 2 0b011)
-
 -- change 05 through nodes 1 and 2 leaves 01 04 05, serials 3 3 2: message 00, though no block is 00
 abbrev spare-change : Event
 spare-change = call (record { params = record { k = 1; r = 3; w = 2; n = 3; b = 1 }; codeword = held; serials = held }) (update (0x05 ∷ []) 0b011 3 0b011)
 
+-- to the same shape through all nodes, with nodes 1 and 2 written: F2 F7 05, whose message is 04. Node 3 is copied and keeps its serial, 3 3 2
+abbrev copying : Event
+copying =
+    call (record { params = record { k = 1; r = 3; w = 2; n = 3; b = 1 }; codeword = held; serials = held })
+    (reconfigure (record { k = 1; r = 3; w = 2; n = 3 }) (0x00 ∷ 0x00 ∷ 0x00 ∷ []) (0 ∷ 0 ∷ 0 ∷ []) (0x04 ∷ []) 0b111 0b011)
+
 -- ---- the list, in three parts, since one as long would take much longer to check
 
 abbrev first : List Event
-first = viewing ∷ broken-change ∷ reading ∷ difference ∷ open-blow ∷ change-again ∷ first-rebuild ∷ checking ∷ []
+first = viewing ∷ broken-change ∷ reading ∷ difference ∷ open-blow ∷ change-again ∷ first-rebuild ∷ other-blow ∷ handing-rebuild ∷ checking ∷ []
 
 abbrev second : List Event
 second =
@@ -184,7 +193,7 @@ second =
     blow ∷ change-over ∷ rebuild ∷ second-blow ∷ rearrangement ∷ widening ∷ []
 
 abbrev third : List Event
-third = sparing ∷ spare-check ∷ third-blow ∷ spare-rebuild ∷ fourth-blow ∷ spare-reading ∷ spare-rearrangement ∷ late-send ∷ spare-change ∷ []
+third = sparing ∷ spare-check ∷ third-blow ∷ spare-rebuild ∷ fourth-blow ∷ spare-reading ∷ spare-rearrangement ∷ spare-change ∷ copying ∷ []
 
 abbrev pub events : List Event
 events = first ++ (second ++ third)
@@ -199,8 +208,8 @@ mended = sending (0x05 ∷ []) 0b011 1 0b111 broken
 abbrev over : Sends
 over = sending (0x05 ∷ []) 0b011 2 0b011 mended
 
-abbrev late : Sends
-late = sending (0x05 ∷ []) 0b011 2 0b011 over
+abbrev spared : Sends
+spared = sending (0x05 ∷ []) 0b011 3 0b011 over
 
 -- the changes up to a serial, all closed
 mended-low : (s : ℕ) → mended .sent s ≡ true → s < 2
@@ -209,8 +218,8 @@ mended-low s = sent-more 1 tt (sent-more 1 tt sent-none)
 over-low : (s : ℕ) → over .sent s ≡ true → s < 3
 over-low s = sent-more 2 tt (sent-more 1 tt (sent-more 1 tt sent-none))
 
-late-low : (s : ℕ) → late .sent s ≡ true → s < 3
-late-low s = sent-more 2 tt (sent-more 2 tt (sent-more 1 tt (sent-more 1 tt sent-none)))
+spared-low : (s : ℕ) → spared .sent s ≡ true → s < 4
+spared-low s = sent-more 3 tt (sent-more 2 tt (sent-more 1 tt (sent-more 1 tt sent-none)))
 
 mended-closed : Closed mended
 unfolding has
@@ -220,16 +229,22 @@ over-closed : Closed over
 unfolding has
 over-closed = closed-by (over .sent) (over .to) (over .reached) 3 over-low tt
 
-late-closed : Closed late
+spared-closed : Closed spared
 unfolding has
-late-closed = closed-by (late .sent) (late .to) (late .reached) 3 late-low tt
+spared-closed = closed-by (spared .sent) (spared .to) (spared .reached) 4 spared-low tt
 
 -- what the parts leave, and what the machine then holds
 abbrev repaired-held : Held
-repaired-held = begun small (0x00 ∷ 0x0c ∷ 0x0c ∷ []) (1 ∷ 1 ∷ 0 ∷ [])
+repaired-held = begun small (0x00 ∷ 0x0c ∷ 0x0c ∷ []) (1 ∷ 1 ∷ 1 ∷ [])
 
 abbrev mended-machine : Machine
-mended-machine = record { params = small; ledger = 0x02 ∷ []; damaged = λ i. (false || eqb i 1) && not (has 0b001 i); sends = mended }
+mended-machine =
+    record {
+      params = small;
+      ledger = 0x02 ∷ [];
+      damaged = λ i. (((false || eqb i 1) && not (has 0b001 i)) || eqb i 3) && not (has 0b100 i);
+      sends = mended;
+    }
 
 abbrev wide : Held
 wide = begun (record { k = 2; r = 2; w = 3; n = 3; b = 1 }) (0x00 ∷ 0x06 ∷ 0x06 ∷ []) (2 ∷ 2 ∷ 2 ∷ [])
@@ -248,15 +263,15 @@ widened =
     }
 
 abbrev pub left : Held
-left = begun (record { k = 1; r = 3; w = 2; n = 3; b = 1 }) (0x01 ∷ 0x04 ∷ 0x05 ∷ []) (3 ∷ 3 ∷ 2 ∷ [])
+left = begun (record { k = 1; r = 3; w = 2; n = 3; b = 1 }) (0xf2 ∷ 0xf7 ∷ 0x05 ∷ []) (3 ∷ 3 ∷ 2 ∷ [])
 
 abbrev pub machine : Machine
 machine =
     record {
       params = left .params;
-      ledger = 0x00 ∷ [];
-      damaged = rewrites 0b110 (λ i. (rewrites 0b111 (widened .damaged) i || eqb i 3) && not (has 0b100 i) || eqb i 2);
-      sends = sending (0x05 ∷ []) 0b011 3 0b011 late;
+      ledger = 0x04 ∷ [];
+      damaged = rewrites 0b011 (rewrites 0b110 (λ i. (rewrites 0b111 (widened .damaged) i || eqb i 3) && not (has 0b100 i) || eqb i 2));
+      sends = spared;
     }
 
 -- an answer other than 0
@@ -303,7 +318,11 @@ first-run =
     more {e = first-rebuild} ((tt, tt), omega arith, omega arith)
     (λ _. (given-in-force _, record { undamaged = undamaged-by _ 0b110 (omega arith) tt; closed = mended-closed }))
     (repaired 0 (0x00 ∷ 0x0c ∷ 0x0c ∷ []) (1 ∷ 1 ∷ 0 ∷ []) (repair-by _ _ _ _ _ _ _ (0x02 ∷ []) (0x02 ∷ []) tt)) (
-    more {e = checking} (tt, tt) (λ _. record-in-force _) (checked Agrees refl (check-by _ _ (0x02 ∷ []) (0x02 ∷ []) tt)) done)))))))
+    more {e = other-blow} (bytes (0xff ∷ []) tt) (λ _. tt) (damaged refl) (
+    more {e = handing-rebuild} ((tt, tt), omega arith, omega arith)
+    (λ _. (given-in-force _, record { undamaged = undamaged-by _ 0b011 (omega arith) tt; closed = mended-closed }))
+    (repaired 0 (0x00 ∷ 0x0c ∷ 0x0c ∷ []) (1 ∷ 1 ∷ 1 ∷ []) (repair-by _ _ _ _ _ _ _ (0x02 ∷ []) (0x02 ∷ []) tt)) (
+    more {e = checking} (tt, tt) (λ _. record-in-force _) (checked Agrees refl (check-by _ _ (0x02 ∷ []) (0x02 ∷ []) tt)) done)))))))))
 
 second-run : Run repaired-held mended-machine second wide widened
 unfolding encodeGate decodeGate deltaGate updateGate repairGate reconfigureGate checkGate viewGate damageGate firstNo slackParts working
@@ -330,10 +349,10 @@ second-run =
       given-in-force _,
       record { same = λ e. absurd (true≢false (sym e)); higher = λ _ s e. mended-low s e; alone = λ _. mended-closed },
     ))
-    (updated 0 (0xf9 ∷ 0x0a ∷ 0x0c ∷ []) (2 ∷ 2 ∷ 0 ∷ []) (update-by _ _ _ _ _ _ _ _ _ (0x03 ∷ []) tt)) (
+    (updated 0 (0xf9 ∷ 0x0a ∷ 0x0c ∷ []) (2 ∷ 2 ∷ 1 ∷ []) (update-by _ _ _ _ _ _ _ _ _ (0x03 ∷ []) tt)) (
     more {e = rebuild} ((tt, tt), omega arith, omega arith)
     (λ _. (given-in-force _, record { undamaged = undamaged-by _ 0b110 (omega arith) tt; closed = over-closed }))
-    (repaired 0 (0x06 ∷ 0x0a ∷ 0x0c ∷ []) (2 ∷ 2 ∷ 0 ∷ []) (repair-by _ _ _ _ _ _ _ (0x07 ∷ []) (0x01 ∷ []) tt)) (
+    (repaired 0 (0x06 ∷ 0x0a ∷ 0x0c ∷ []) (2 ∷ 2 ∷ 1 ∷ []) (repair-by _ _ _ _ _ _ _ (0x07 ∷ []) (0x01 ∷ []) tt)) (
     more {e = second-blow} (bytes (0xaa ∷ []) tt) (λ _. tt) (damaged refl) (
     more {e = rearrangement} ((tt, tt), bytes (0x00 ∷ 0x00 ∷ 0x00 ∷ []) tt, words (9 ∷ 9 ∷ 9 ∷ []) tt, bytes (0x09 ∷ []) tt, omega arith, omega arith)
     (λ _. (given-in-force _, record { undamaged = undamaged-by _ 0b110 (omega arith) tt; closed = over-closed }))
@@ -360,18 +379,15 @@ third-run =
     more {e = spare-rearrangement} ((tt, tt), bytes (0x00 ∷ 0x00 ∷ 0x00 ∷ []) tt, words (0 ∷ 0 ∷ 0 ∷ []) tt, bytes (0x05 ∷ []) tt, omega arith, omega arith)
     (λ _. (given-in-force _, record { undamaged = undamaged-by _ 0b101 (omega arith) tt; closed = over-closed }))
     (reconfigured 0 (0x07 ∷ 0x02 ∷ 0x05 ∷ []) (2 ∷ 2 ∷ 2 ∷ []) (reconfigure-by _ _ _ _ _ _ _ _ _ (0x07 ∷ []) [] (0x02 ∷ []) tt _ _ refl refl)) (
-    more {e = late-send} ((tt, tt), bytes (0x05 ∷ []) tt, omega arith, omega arith, omega arith)
-    (λ _. (
-      given-in-force _,
-      record { same = λ _. (refl, refl); higher = λ e. absurd (true≢false e); alone = λ e. absurd (true≢false e) },
-    ))
-    (updated 0 (0x07 ∷ 0x02 ∷ 0x05 ∷ []) (2 ∷ 2 ∷ 2 ∷ []) (update-by _ _ _ _ _ _ _ _ _ (0x03 ∷ []) tt)) (
     more {e = spare-change} ((tt, tt), bytes (0x05 ∷ []) tt, omega arith, omega arith, omega arith)
     (λ _. (
       given-in-force _,
-      record { same = λ e. absurd (true≢false (sym e)); higher = λ _ s e. late-low s e; alone = λ _. late-closed },
+      record { same = λ e. absurd (true≢false (sym e)); higher = λ _ s e. over-low s e; alone = λ _. over-closed },
     ))
-    (updated 0 (0x01 ∷ 0x04 ∷ 0x05 ∷ []) (3 ∷ 3 ∷ 2 ∷ []) (update-by _ _ _ _ _ _ _ _ _ (0x03 ∷ []) tt)) done))))))))
+    (updated 0 (0x01 ∷ 0x04 ∷ 0x05 ∷ []) (3 ∷ 3 ∷ 2 ∷ []) (update-by _ _ _ _ _ _ _ _ _ (0x03 ∷ []) tt)) (
+    more {e = copying} ((tt, tt), bytes (0x00 ∷ 0x00 ∷ 0x00 ∷ []) tt, words (0 ∷ 0 ∷ 0 ∷ []) tt, bytes (0x04 ∷ []) tt, omega arith, omega arith)
+    (λ _. (given-in-force _, record { undamaged = undamaged-by _ 0b111 (omega arith) tt; closed = spared-closed }))
+    (reconfigured 0 (0xf2 ∷ 0xf7 ∷ 0x05 ∷ []) (3 ∷ 3 ∷ 2 ∷ []) (reconfigure-by _ _ _ _ _ _ _ _ _ (0x00 ∷ []) (0x01 ∷ []) (0xf6 ∷ []) tt _ _ refl refl)) done))))))))
 
 -- one list after another
 followed : {h h′ h″ : Held} {m m′ m″ : Machine} {es es′ : List Event} → Run h m es h′ m′ → Run h′ m′ es′ h″ m″ → Run h m (es ++ es′) h″ m″
@@ -395,24 +411,53 @@ example =
       run = followed first-run (followed second-run third-run);
     }
 
--- its changes are all closed
-example-closed : Closed (machine .sends)
-unfolding has
-example-closed =
-    closed-by (machine .sends .sent) (machine .sends .to) (machine .sends .reached) 4
-    (λ s. sent-more 3 tt (sent-more 2 tt (sent-more 2 tt (sent-more 1 tt (sent-more 1 tt sent-none))))) tt
-
--- .. after which the nodes read 00, by what decode means, ..
-pub example-reading : Reading left machine (0x00 ∷ [])
+-- .. after which the nodes read 04, by what decode means, ..
+pub example-reading : Reading left machine (0x04 ∷ [])
 unfolding decodeGate firstNo slackParts working has size ones within count lowest cell block point evaluate sum add mul pow
 example-reading =
     record {
       from = 0b111;
       buffer = 0xff ∷ [];
-      accepted = decode-by _ _ _ _ (0x01 ∷ []) tt _ refl;
-      readable = record { undamaged = undamaged-by _ 0b111 (omega arith) tt; closed = example-closed };
+      accepted = decode-by _ _ _ _ (0xf6 ∷ []) tt _ refl;
+      readable = record { undamaged = undamaged-by _ 0b111 (omega arith) tt; closed = spared-closed };
     }
 
 -- .. and by the ledger: every reading there gives this byte.
-pub example-ledger : (out : List ℕ) → Reading left machine out → out ≡ 0x00 ∷ []
+pub example-ledger : (out : List ℕ) → Reading left machine out → out ≡ 0x04 ∷ []
 example-ledger out rd = reading-is-ledger example rd
+
+-- ---- more than the request asks: the closed change of serial 3 is sent once more, though a rearrangement was written since
+
+abbrev late-send : Event
+late-send = call (record { params = record { k = 1; r = 3; w = 2; n = 3; b = 1 }; codeword = held; serials = held }) (update (0x05 ∷ []) 0b011 3 0b011)
+
+-- what the machine then holds: the ledger is as it was
+abbrev late-machine : Machine
+late-machine = record { params = machine .params; ledger = 0x04 ∷ []; damaged = machine .damaged; sends = sending (0x05 ∷ []) 0b011 3 0b011 spared }
+
+late-run : Run left machine (late-send ∷ []) left late-machine
+unfolding updateGate firstNo slackParts working has size ones within count cell block point evaluate sum add mul pow
+late-run =
+    more {e = late-send} ((tt, tt), bytes (0x05 ∷ []) tt, omega arith, omega arith, omega arith)
+    (λ _. (
+      given-in-force _,
+      record { same = λ _. (refl, refl); higher = λ e. absurd (true≢false e); alone = λ e. absurd (true≢false e) },
+    ))
+    (updated 0 (0xf2 ∷ 0xf7 ∷ 0x05 ∷ []) (3 ∷ 3 ∷ 2 ∷ []) (update-by _ _ _ _ _ _ _ _ _ (0x03 ∷ []) tt)) done
+
+-- It moves nobody, and the list with it is a history too.
+pub example-late : History (events ++ late-send ∷ []) left late-machine
+unfolding encodeGate firstNo slackParts cell block point evaluate sum add mul pow
+example-late =
+    record {
+      params = example .params;
+      message = example .message;
+      slack = example .slack;
+      buffer = example .buffer;
+      numbers = example .numbers;
+      codeword = example .codeword;
+      serials = example .serials;
+      typed = example .typed;
+      opening = example .opening;
+      run = followed (example .run) late-run;
+    }

@@ -101,7 +101,7 @@ table =
     reconfigures spare (record { k = 1; r = 3; w = 2; n = 3 }) (0x07 ∷ 0xff ∷ 0x09 ∷ []) (1 ∷ 2 ∷ 0 ∷ []) 0b011 0b110 (0x05 ∷ [])
     (0x07 ∷ 0x02 ∷ 0x05 ∷ []) (1 ∷ 2 ∷ 2 ∷ []) ∷
     names spare (0x07 ∷ 0xff ∷ 0x09 ∷ []) 2 ∷
-    -- "The radio drops after some of the w traps have had their difference": the change 05 through 1, 2 again, under serial 1, and node 1 alone is reached
+    -- "The radio drops after some of the w traps have had their difference": the change 05 through 1, 2 from the start, under serial 1, and node 1 alone is reached
     leaves small (0x06 ∷ 0x0a ∷ 0x0c ∷ []) (0 ∷ 0 ∷ 0 ∷ []) (0x05 ∷ []) 0b011 1 0b001 (0x00 ∷ 0x0a ∷ 0x0c ∷ []) (1 ∷ 0 ∷ 0 ∷ []) ∷
     -- "sending the same change to all w again .. must give the record of one whole change": node 1 has the serial and does not add the difference again
     leaves small (0x00 ∷ 0x0a ∷ 0x0c ∷ []) (1 ∷ 0 ∷ 0 ∷ []) (0x05 ∷ []) 0b011 1 0b011 (0x00 ∷ 0x0c ∷ 0x0c ∷ []) (1 ∷ 1 ∷ 0 ∷ []) ∷
@@ -109,8 +109,9 @@ table =
     leaves small (0x00 ∷ 0x0c ∷ 0x0c ∷ []) (1 ∷ 1 ∷ 0 ∷ []) (0x05 ∷ []) 0b011 1 0b011 (0x00 ∷ 0x0c ∷ 0x0c ∷ []) (1 ∷ 1 ∷ 0 ∷ []) ∷
     -- "a choice, any bits, of the traps that the radio reaches": of all that are reached those of W take it
     leaves small (0x06 ∷ 0x0a ∷ 0x0c ∷ []) (0 ∷ 0 ∷ 0 ∷ []) (0x05 ∷ []) 0b011 1 0xffffffff (0x00 ∷ 0x0c ∷ 0x0c ∷ []) (1 ∷ 1 ∷ 0 ∷ []) ∷
-    -- "Rebuilt .. traps take the highest serial in R": node 3 from 1, 2
+    -- "Rebuilt .. traps take the highest serial in R": node 3 from 1, 2, also where its own was higher
     repairs small (0x00 ∷ 0x0c ∷ 0xff ∷ []) (1 ∷ 1 ∷ 0 ∷ []) 0b011 0b100 (0x00 ∷ 0x0c ∷ 0x0c ∷ []) (1 ∷ 1 ∷ 1 ∷ []) ∷
+    repairs small (0x00 ∷ 0x0c ∷ 0xff ∷ []) (1 ∷ 2 ∷ 9 ∷ []) 0b011 0b100 (0x00 ∷ 0x0c ∷ 0x0c ∷ []) (1 ∷ 2 ∷ 2 ∷ []) ∷
     -- ".. or newly written": rearranged to (1,2,3,4), message 09, W' of 1, 2, 3, through 1, 2; node 4 is above n and takes it too
     reconfigures small (record { k = 1; r = 2; w = 3; n = 4 }) (0x00 ∷ 0x0c ∷ 0x0c ∷ []) (1 ∷ 1 ∷ 0 ∷ []) 0b0011 0b0111 (0x09 ∷ [])
     (0xc0 ∷ 0x11 ∷ 0xd1 ∷ 0x28 ∷ []) (1 ∷ 1 ∷ 1 ∷ 1 ∷ []) ∷ []
@@ -143,6 +144,7 @@ figures =
     update-by _ _ _ _ _ _ _ _ _ (0x03 ∷ []) tt &
     update-by _ _ _ _ _ _ _ _ _ (0x03 ∷ []) tt &
     update-by _ _ _ _ _ _ _ _ _ (0x03 ∷ []) tt &
+    repair-by _ _ _ _ _ _ _ (0x02 ∷ []) (0x02 ∷ []) tt &
     repair-by _ _ _ _ _ _ _ (0x02 ∷ []) (0x02 ∷ []) tt &
     reconfigure-by _ _ _ _ _ _ _ _ _ (0x02 ∷ []) (0x02 ∷ []) (0xc9 ∷ []) tt &
     tt

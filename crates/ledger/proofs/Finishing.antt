@@ -21,7 +21,7 @@ use Rattle.code.specs.Code.{Parts, block}
 use Rattle.code.specs.Calls.{Updated, Sent}
 use Rattle.code.proofs.Pairs.{spread-unique}
 use Rattle.code.proofs.Determined.{updated-exists, updated-unique}
-use Rattle.code.proofs.Sends.{join-all, sends-join, send-whole, none-takes, send-still}
+use Rattle.code.proofs.Sends.{send-over, send-whole, none-takes, send-still}
 use Rattle.ledger.specs.Ledger.{Sends, sending, Closed, damagedWord}
 use Rattle.ledger.proofs.Sound.{Sound, update-sound, damage-sound, sound-cells}
 use Rattle.ledger.proofs.Stamps.{Stamps, sent-here, to-here, change-here, again-sent, again-to, again-change, reached-still}
@@ -81,7 +81,7 @@ module _ (a : Params) (ok : Valid a) where
         let d = k .change top in
         let to = k .to top in
         let e = finish-exists d to top new serials′ (f .inside) (f .many) in
-        let both = sends-join a ok d to top (f .inside) (f .many) c to to (join-all to c to (λ i b. b)) codeword serials new serials′ (e .0) (e .1) sent (e .2) in
+        let both = send-over a ok d to top (f .inside) (f .many) c to (λ i b. b) codeword serials new serials′ (e .0) (e .1) sent (e .2) in
         let same = updated-unique a ok d to (f .inside) (f .many) codeword (takes to to serials top) (f .full) (e .0) (f .send .0) (both .0) in
         record {
           inside = f .inside;
@@ -97,7 +97,7 @@ module _ (a : Params) (ok : Valid a) where
         → Sound a codeword ledger damaged → Sent a d to serial c codeword serials new serials′ → Finish a new serials′ (plus ledger d) damaged d to serial
     finish-begin d to serial c new serials′ hd hw hs above s sent =
         let e = finish-exists d to serial new serials′ hw hs in
-        let both = sends-join a ok d to serial hw hs c to to (join-all to c to (λ i b. b)) codeword serials new serials′ (e .0) (e .1) sent (e .2) in
+        let both = send-over a ok d to serial hw hs c to (λ i b. b) codeword serials new serials′ (e .0) (e .1) sent (e .2) in
         let one = send-whole a ok d to serial hw hs to (λ i b. b) codeword serials (e .0) (e .1) (λ j hj b. omega (arith, i .below j hj)) both in
         record {
           inside = hw;

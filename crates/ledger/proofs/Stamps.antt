@@ -92,14 +92,14 @@ every-meets a ok serials top to tw ts low high from fw fs =
     let m =
     meet (has from) (has to) (a .n)
     (omega (arith, within-size (a .n) from fw, within-size (a .n) to tw, fs, ts, ok .shape .enough, ok .shape .k-low)) in
-    omega (arith, highest-le (has from) serials (a .n) top low, highest-at (has from) serials (a .n) (m .0) (m .1) (m .2), high (m .0) (m .1) (m .3))
+    omega (arith, highest-le (has from) serials (a .n) top (λ j hj _. low j hj), highest-at (has from) serials (a .n) (m .0) (m .1) (m .2), high (m .0) (m .1) (m .3))
 
 -- .. and where no serial falls it still has one
 every-still : (a : Params) (serials serials′ : List ℕ) (top : ℕ) → ((j : ℕ) → j < a .n → getD serials′ j 0 ≤ top)
     → ((j : ℕ) → j < a .n → getD serials j 0 ≤ getD serials′ j 0) → (from : ℕ) → highest (has from) serials (a .n) ≡ top
     → highest (has from) serials′ (a .n) ≡ top
 every-still a serials serials′ top low rise from e =
-    omega (arith, highest-le (has from) serials′ (a .n) top low, highest-mono (has from) serials serials′ (a .n) rise, e)
+    omega (arith, highest-le (has from) serials′ (a .n) top (λ j hj _. low j hj), highest-mono (has from) serials serials′ (a .n) rise, e)
 
 -- ---- the opening set-up
 
@@ -113,7 +113,7 @@ stamps-begun a serials many zeros =
       unsent = λ t e i. refl;
       older = λ t e. absurd (true≢false (sym e));
       marked = λ t e. absurd (true≢false (sym e));
-      every = λ c from w s. omega (arith, highest-le (has from) serials (a .n) 0 (λ j hj. omega (arith, zeros j)));
+      every = λ c from w s. omega (arith, highest-le (has from) serials (a .n) 0 (λ j hj _. omega (arith, zeros j)));
     }
 
 module _ (a : Params) (serials serials′ : List ℕ) (k : Sends) (top : ℕ) (i : Stamps a serials k top) where
@@ -162,10 +162,12 @@ module _ (a : Params) (serials serials′ : List ℕ) (k : Sends) (top : ℕ) (i
       begins-marked t e j hj b r =
           ⊎-elim
           (λ q.
-          omega
-          (arith, q,
-          reaches j hj (ap (λ (s : ℕ). has s (suc j)) (sym (to-here d to serial reached k)) ∙ subst (λ (t : ℕ). has (k′ .to t) (suc j) ≡ true) q b)
-          (mine j (sym (reached-here d to serial reached k (suc j)) ∙ subst (λ (t : ℕ). k′ .reached t (suc j) ≡ true) q r))))
+          omega (
+            arith,
+            q,
+            reaches j hj (ap (λ (s : ℕ). has s (suc j)) (sym (to-here d to serial reached k)) ∙ subst (λ (t : ℕ). has (k′ .to t) (suc j) ≡ true) q b)
+                (mine j (sym (reached-here d to serial reached k (suc j)) ∙ subst (λ (t : ℕ). k′ .reached t (suc j) ≡ true) q r)),
+          ))
           (λ o.
           let was =
           i .marked t (o .1) j hj (ap (λ (s : ℕ). has s (suc j)) (sym (to-there d to serial reached k t (o .0))) ∙ b)
@@ -257,9 +259,11 @@ module _ (a : Params) (serials serials′ : List ℕ) (k : Sends) (top : ℕ) (i
                 every-meets a valid serials′ top to tw ts low
                 (λ j hj b.
                 let there = ap (λ (s : ℕ). has s (suc j)) (to-here d to serial reached k) ∙ b in
-                omega
-                (arith, q,
-                again-marked serial (sent-here d to serial reached k) j hj there (c serial (sent-here d to serial reached k) (suc j) there))))
+                omega (
+                  arith,
+                  q,
+                  again-marked serial (sent-here d to serial reached k) j hj there (c serial (sent-here d to serial reached k) (suc j) there),
+                )))
                 (lt-or serial top);
           }
         where

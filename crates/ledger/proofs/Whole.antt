@@ -22,7 +22,7 @@ use Rattle.gates.specs.Valid.{Valid}
 use Rattle.params.specs.declared.Params.{Params}
 use Rattle.params.specs.declared.Shape.{Shape}
 use Rattle.gates.proofs.Valid.{encode-accepted, update-accepted, repair-accepted, reconfigure-accepted}
-use Rattle.serials.specs.Serials.{Words, takes, highest, Stamped}
+use Rattle.serials.specs.Serials.{Words32, takes, highest, Stamped}
 use Rattle.serials.proofs.Laws.{highest-words, stamped-words}
 use Rattle.code.specs.Calls.{Post, Unwritten, EncodePost, DecodePost, UpdatePost, RepairPost, ReconfigurePost, writes}
 use Rattle.code.proofs.Additivity.{block-byte}
@@ -37,7 +37,7 @@ pub record Whole (h : Held) : Type 0 where
   pub length-is : length (h .codeword) ≡ h .params .n * h .params .b
   pub bytes : Bytes (h .codeword)
   pub serials-length : length (h .serials) ≡ h .params .n
-  pub words : Words (h .serials)
+  pub words : Words32 (h .serials)
 
 -- ---- what the calls write: as many bytes and serials as there were
 
@@ -67,7 +67,7 @@ Kept P old new = (length new ≡ length old) × P new
 
 -- a buffer of bytes and one of serials
 abbrev BothKept : List ℕ → List ℕ → List ℕ → List ℕ → Type 0
-BothKept old serials new serials′ = Kept Bytes old new × Kept Words serials serials′
+BothKept old serials new serials′ = Kept Bytes old new × Kept Words32 serials serials′
 
 by-post : {gate answer : ℕ} {A B C : Type 0} → (gate ≡ 0 → A → C) → (B → C) → Post gate answer A B → C
 by-post {gate} f g t = ⊎-elim (λ z. f z (t .served (t .number ∙ z))) (λ ne. g (t .refused (λ z. ne (sym (t .number) ∙ z)))) (eq-or gate 0)
@@ -75,16 +75,16 @@ by-post {gate} f g t = ⊎-elim (λ z. f z (t .served (t .number ∙ z))) (λ ne
 same-kept : (P : List ℕ → Type 0) (old new : List ℕ) → P old → new ≡ old → Kept P old new
 same-kept P old new h e = subst (Kept P old) (sym e) (refl, h)
 
-unwritten-kept : (old serials new serials′ : List ℕ) → Bytes old → Words serials → Unwritten old serials new serials′ → BothKept old serials new serials′
-unwritten-kept old serials new serials′ h w u = (same-kept Bytes old new h (u .0), same-kept Words serials serials′ w (u .1))
+unwritten-kept : (old serials new serials′ : List ℕ) → Bytes old → Words32 serials → Unwritten old serials new serials′ → BothKept old serials new serials′
+unwritten-kept old serials new serials′ h w u = (same-kept Bytes old new h (u .0), same-kept Words32 serials serials′ w (u .1))
 
 -- serials that some nodes took
-stamped-kept : (n : ℕ) (f : ℕ → Bool) (serial : ℕ) (old new : List ℕ) → length old ≡ n → serial < 2 ^ 32 → Words old → Stamped n f serial old new
-    → Kept Words old new
+stamped-kept : (n : ℕ) (f : ℕ → Bool) (serial : ℕ) (old new : List ℕ) → length old ≡ n → serial < 2 ^ 32 → Words32 old → Stamped n f serial old new
+    → Kept Words32 old new
 stamped-kept n f serial old new e hs w s = (s .length-is ∙ sym e, stamped-words hs w s)
 
 module _ (a : Params) (x v old serials : List ℕ) (answer : ℕ) (new serials′ : List ℕ) where
-  encode-kept : Bytes old → Words serials → EncodePost a x v old serials answer new serials′ → BothKept old serials new serials′
+  encode-kept : Bytes old → Words32 serials → EncodePost a x v old serials answer new serials′ → BothKept old serials new serials′
   encode-kept h w =
       by-post
       (λ z s.
@@ -96,13 +96,13 @@ module _ (a : Params) (x v old serials : List ℕ) (answer : ℕ) (new serials�
         ),
         (
           ap length (s .1) ∙ length-replicate {A = ℕ} (a .n) 0 ∙ sym (g .serials-length),
-          subst Words (sym (s .1)) (λ j. omega (arith, zeros-at (a .n) j)),
+          subst Words32 (sym (s .1)) (λ j. omega (arith, zeros-at (a .n) j)),
         ),
       ))
       (unwritten-kept old serials new serials′ h w)
 
 module _ (a : Params) (d : List ℕ) (to serial reached : ℕ) (old serials : List ℕ) (answer : ℕ) (new serials′ : List ℕ) where
-  update-kept : serial < 2 ^ 32 → Bytes old → Words serials → UpdatePost a d to serial reached old serials answer new serials′
+  update-kept : serial < 2 ^ 32 → Bytes old → Words32 serials → UpdatePost a d to serial reached old serials answer new serials′
       → BothKept old serials new serials′
   update-kept hs h w =
       by-post
@@ -120,7 +120,7 @@ module _ (a : Params) (d : List ℕ) (to serial reached : ℕ) (old serials : Li
       (unwritten-kept old serials new serials′ h w)
 
 module _ (a : Params) (from lost : ℕ) (old serials : List ℕ) (answer : ℕ) (new serials′ : List ℕ) where
-  repair-kept : Bytes old → Words serials → RepairPost a from lost old serials answer new serials′ → BothKept old serials new serials′
+  repair-kept : Bytes old → Words32 serials → RepairPost a from lost old serials answer new serials′ → BothKept old serials new serials′
   repair-kept h w =
       by-post
       (λ z s.
@@ -152,17 +152,17 @@ module _ (h : Held) (g : Given) (w : Whole h) where
   lent-bytes : GivenTyped g → Bytes (lent h g)
   lent-bytes t = lent-as Bytes (h .codeword) (g .codeword) (w .bytes) (t .0)
 
-  lent-words : GivenTyped g → Words (serialsLent h g)
-  lent-words t = lent-as Words (h .serials) (g .serials) (w .words) (t .1)
+  lent-words : GivenTyped g → Words32 (serialsLent h g)
+  lent-words t = lent-as Words32 (h .serials) (g .serials) (w .words) (t .1)
 
   wrote-whole : (new serials : List ℕ) → BothKept (lent h g) (serialsLent h g) new serials → Whole (wrote h g new serials)
   wrote-whole new serials k =
       let c = left-kept Bytes (h .codeword) (g .codeword) new (w .bytes) (k .0) in
-      let s = left-kept Words (h .serials) (g .serials) serials (w .words) (k .1) in
+      let s = left-kept Words32 (h .serials) (g .serials) serials (w .words) (k .1) in
       record { valid = w .valid; length-is = c .0 ∙ w .length-is; bytes = c .1; serials-length = s .0 ∙ w .serials-length; words = s .1 }
 
 moved-whole : (h : Held) (a : Params) (t : Shape) (old serials : List ℕ) (from to : ℕ) (x buffer numbers : List ℕ) (answer : ℕ) (new serials′ : List ℕ)
-    → Whole h → Bytes old → Words serials → ReconfigurePost a t old serials from to x buffer numbers answer new serials′
+    → Whole h → Bytes old → Words32 serials → ReconfigurePost a t old serials from to x buffer numbers answer new serials′
     → Whole (moved answer h a t new serials′)
 moved-whole h a t old serials from to x buffer numbers zero new serials′ w ho hs post =
     let g = reconfigure-accepted a t _ _ _ _ _ _ _ .0 (sym (post .number)) in

@@ -13,7 +13,7 @@ use Rattle.params.specs.Params.{reshaped}
 use Rattle.gates.specs.Gates.{viewGate, damageGate}
 use Rattle.params.specs.declared.Params.{Params}
 use Rattle.params.specs.declared.Shape.{Shape}
-use Rattle.serials.specs.Serials.{Words}
+use Rattle.serials.specs.Serials.{Words32}
 use Rattle.code.specs.Calls.{EncodePost, DecodePost, DeltaPost, UpdatePost, RepairPost, CheckPost, ViewPost, ReconfigurePost, number}
 use Rattle.code.specs.declared.Verdict.{Verdict}
 
@@ -158,7 +158,7 @@ moved (suc q) h a t new serials = h
 unfoldable pub damagedWord : Params → List ℕ → ℕ → List ℕ → List ℕ
 damagedWord a codeword i bytes = blocks (a .b) (a .n) (λ j p. cond (eqb (suc j) i) (getD bytes p 0) (cell (a .b) codeword j p))
 
--- "damage keep[s] theirs": the serials stay. A damage event outside 1..n alters nothing.
+-- "copied traps and damage keep theirs": the serials stay. A damage event outside 1..n alters nothing.
 abbrev pub damagedHeld : ℕ → Held → ℕ → List ℕ → Held
 damagedHeld zero h i bytes = withRecord (damagedWord (h .params) (h .codeword) i bytes) (h .serials) h
 damagedHeld (suc q) h i bytes = h
@@ -226,6 +226,7 @@ abbrev pub Closed : Sends → Type 0
 Closed k = (serial : ℕ) → k .sent serial ≡ true → (i : ℕ) → has (k .to serial) i ≡ true → k .reached serial i ≡ true
 
 -- What document 02, 2026-03, asks of an accepted change of a list: under a serial that was sent before it is the same change again, under any other it begins one.
+-- ("A closed change is never sent again once anything else was written" is not asked: such a send moves nobody and counts no more.)
 pub record Sendable (k : Sends) (d : List ℕ) (to serial : ℕ) : Type 0 where
   -- "in lists all sends under one serial have the same W and change bytes"
   pub same : k .sent serial ≡ true → (to ≡ k .to serial) × (d ≡ k .change serial)
@@ -234,7 +235,7 @@ pub record Sendable (k : Sends) (d : List ℕ) (to serial : ℕ) : Type 0 where
   -- "no other change begins while one is open"
   pub alone : k .sent serial ≡ false → Closed k
 
--- R is "between closed changes" and holds no damaged node: "readings, those after a list too, rebuilds and rearrangements come between closed changes" (document
+-- A call may read R: R holds no damaged node, and every change is closed, "readings, those after a list too, rebuilds and rearrangements come between closed changes" (document
 -- 02, 2026-03).
 pub record Readable (m : Machine) (from : ℕ) : Type 0 where
   pub undamaged : Undamaged m from
@@ -260,14 +261,14 @@ LentAs P held = Unit {0}
 LentAs P (other numbers) = P numbers
 
 abbrev pub GivenTyped : Given → Type 0
-GivenTyped g = LentAs Bytes (g .codeword) × LentAs Words (g .serials)
+GivenTyped g = LentAs Bytes (g .codeword) × LentAs Words32 (g .serials)
 
 abbrev pub Typed : Event → Type 0
 Typed (call g (encode x v)) = GivenTyped g × Bytes x × Bytes v
 Typed (call g (update d to serial reached)) = GivenTyped g × Bytes d × (to < 2 ^ 32) × (serial < 2 ^ 32) × (reached < 2 ^ 32)
 Typed (call g (repair from lost)) = GivenTyped g × (from < 2 ^ 32) × (lost < 2 ^ 32)
 Typed (call g (reconfigure t buffer numbers x from to)) =
-    GivenTyped g × Bytes buffer × Words numbers × Bytes x × (from < 2 ^ 32) × (to < 2 ^ 32)
+    GivenTyped g × Bytes buffer × Words32 numbers × Bytes x × (from < 2 ^ 32) × (to < 2 ^ 32)
 Typed (call g (decode buffer from)) = GivenTyped g × Bytes buffer × (from < 2 ^ 32)
 Typed (call g (delta d buffer to)) = Bytes d × Bytes buffer × (to < 2 ^ 32)
 Typed (call g check) = GivenTyped g
@@ -289,7 +290,7 @@ pub record History (events : List Event) (h : Held) (m : Machine) : Type 0 where
   pub numbers : List ℕ
   pub codeword : List ℕ
   pub serials : List ℕ
-  pub typed : Bytes message × Bytes slack × Bytes buffer × Words numbers
+  pub typed : Bytes message × Bytes slack × Bytes buffer × Words32 numbers
   pub opening : EncodePost params message slack buffer numbers 0 codeword serials
   pub run : Run (begun params codeword serials) (opened params message) events h m
 

@@ -12,7 +12,8 @@ ghost use Rattle.params.specs.Nodes.{size};
 ghost use Rattle.code.specs.Calls.{RepairPost};
 ghost use Rattle.maintenance.specs.Cores.{Rebuildable, Rebuilt};
 
-// The blocks of lost become those of the pair of the blocks of from's q lowest nodes, q the working number, and their serials the highest of all nodes of from.
+// The blocks of lost become those of the pair of the blocks of from's q lowest nodes, q the working number, and their serials the highest of all nodes of from. A
+// refusal leaves codeword and serials as they were.
 pub fn repair(
     a: Params,
     codeword: &mut [u8],

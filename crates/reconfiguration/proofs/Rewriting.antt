@@ -168,4 +168,4 @@ pub restamped : (a : Params) (t : Shape) (old new message from to kept made newe
     → Stamped (t .n) (writes a to) (highest (has from) serials (a .n)) serials numbers′
 restamped a t old new message from to kept made newest serials numbers numbers′ ok keeps makes e s =
     stamped-ext (written-has (a .n) (t .n) to kept made (ok .valid .shape .n-high) (ok .valid-new .shape .n-high) keeps makes)
-    (subst₂ (λ (m x : ℕ). Stamped m (has made) x serials numbers′) (ok .new-serials-length) (e ∙ ap (highest (has from) serials) (ok .serials-length)) s)
+    (subst₂ (λ (m x : ℕ). Stamped m (has made) x serials numbers′) (ok .numbers-length) (e ∙ ap (highest (has from) serials) (ok .serials-length)) s)

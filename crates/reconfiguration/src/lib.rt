@@ -18,7 +18,7 @@ ghost use Rattle.code.specs.Calls.{ReconfigurePost};
 ghost use Rattle.reconfiguration.specs.Core.{Reconfigurable, Rewritten};
 
 // Writes the record of the new shape to out, and its serials to numbers. The old record is only read, its pair from the blocks of from's q lowest nodes, q the
-// working number. The nodes that are written take the highest serial of all nodes of from.
+// working number. The nodes that are written take the highest serial of all nodes of from. A refusal leaves out and numbers as they were.
 pub fn reconfigure(
     a: Params,
     shape: Shape,

@@ -20,7 +20,7 @@ use Rattle.base.proofs.Cases.{lt-or}
 use Rattle.base.proofs.Seq.{length-tabulate, getD-tabulate}
 use Rattle.params.specs.Nodes.{has}
 use Rattle.params.proofs.Sets.{has-past, has-none, has-and}
-use Rattle.serials.specs.Serials.{Words, takes, highest, Stamped}
+use Rattle.serials.specs.Serials.{Words32, takes, highest, Stamped}
 
 -- ---- the highest serial
 
@@ -29,12 +29,15 @@ cond-le : (b : Bool) (x y m : ℕ) → x ≤ m → y ≤ m → cond b x y ≤ m
 cond-le true x y m h k = h
 cond-le false x y m h k = k
 
--- the highest is at most what bounds the nodes' serials
-pub highest-le : (f : ℕ → Bool) (serials : List ℕ) (n m : ℕ) → ((j : ℕ) → j < n → getD serials j 0 ≤ m) → highest f serials n ≤ m
+-- the highest is at most what bounds the serials of the nodes that pass
+pub highest-le : (f : ℕ → Bool) (serials : List ℕ) (n m : ℕ) → ((j : ℕ) → j < n → f (suc j) ≡ true → getD serials j 0 ≤ m) → highest f serials n ≤ m
 unfolding highest
 highest-le f serials zero m h = zero-le
-highest-le f serials (suc n) m h =
-    max-le (highest-le f serials n m (λ j hj. h j (omega arith))) (cond-le (f (suc n)) (getD serials n 0) 0 m (h n (le-refl (suc n))) zero-le)
+highest-le f serials (suc n) m h = max-le (highest-le f serials n m (λ j hj. h j (omega arith))) (go (f (suc n)) refl)
+  where
+    go : (b : Bool) → f (suc n) ≡ b → cond b (getD serials n 0) 0 ≤ m
+    go true e = h n (le-refl (suc n)) e
+    go false e = zero-le
 
 -- the highest is at least the serial of each node that passes
 pub highest-at : (f : ℕ → Bool) (serials : List ℕ) (n j : ℕ) → j < n → f (suc j) ≡ true → getD serials j 0 ≤ highest f serials n
@@ -57,8 +60,8 @@ highest-mono f serials serials′ (suc n) h =
     go false = zero-le
 
 -- the highest of serials is one
-pub highest-words : (f : ℕ → Bool) (serials : List ℕ) (n : ℕ) → Words serials → highest f serials n < 2 ^ 32
-highest-words f serials n w = omega (arith, highest-le f serials n (2 ^ 32 - 1) (λ j hj. omega (arith, w j)))
+pub highest-words : (f : ℕ → Bool) (serials : List ℕ) (n : ℕ) → Words32 serials → highest f serials n < 2 ^ 32
+highest-words f serials n w = omega (arith, highest-le f serials n (2 ^ 32 - 1) (λ j hj e. omega (arith, w j)))
 
 -- one node more
 pub highest-more : (f : ℕ → Bool) (serials : List ℕ) (n : ℕ)
@@ -91,7 +94,7 @@ module _ {n : ℕ} {f : ℕ → Bool} {serial : ℕ} {old new : List ℕ} where
   stamped-filled t before e h s = stamped-by (s .same ∙ e) (λ j hj. s .done j (omega arith))
 
   -- serials stay numbers of 32 bits
-  pub stamped-words : serial < 2 ^ 32 → Words old → Stamped n f serial old new → Words new
+  pub stamped-words : serial < 2 ^ 32 → Words32 old → Stamped n f serial old new → Words32 new
   stamped-words h w s j =
       ⊎-elim
       (λ (l : j < n).

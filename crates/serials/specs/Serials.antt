@@ -8,9 +8,9 @@ use lib.Dec.{ltb}
 use lib.ListN.{length, getD}
 use Rattle.params.specs.Nodes.{has}
 
--- what the type of a slice of serials says
-abbrev pub Words : List ℕ → Type 0
-Words serials = (j : ℕ) → getD serials j 0 < 2 ^ 32
+-- what the type of a slice of serials says: each is a number of 32 bits
+abbrev pub Words32 : List ℕ → Type 0
+Words32 serials = (j : ℕ) → getD serials j 0 < 2 ^ 32
 
 -- "A trap of W in that choice adds the difference and takes the serial together, only if the serial is above its own": the nodes of W that are reached and whose
 -- own serial is below the given one.

@@ -22,7 +22,7 @@ use Rattle.gates.proofs.reconfigure_gate.Tie as tie
 abbrev lengths : tie.After-params-gate → Bool
 lengths c =
     let s = c .before .args in
-    (eqb (s .serials) (s .a .n) && eqb (s .fresh) (s .t .n))
+    (eqb (s .serials) (s .a .n) && eqb (s .numbers) (s .t .n))
     && ((eqb (s .old) (s .a .n * s .a .b) && eqb (s .new) (s .t .n * s .a .b)) && eqb (s .message) (s .t .k * s .a .b))
 
 abbrev names : tie.After-params-gate → Bool
