@@ -9,10 +9,11 @@
 //! A **message** is k parts of b bytes, a **slack** n - w parts (any bytes), a
 //! **codeword** n blocks, that of node 1 first. A **node set** is a `u32` in
 //! which node i is worth 2^(i-1). Message and slack together have q = k + n - w
-//! parts, at most r: of the r nodes that a call is given to read it uses the q
-//! lowest, whatever the others hold. Every number, set and length may be given:
-//! each call puts its questions, in the order of [`QUESTIONS`], and is refused
-//! by the first that is answered no. A refused call writes nothing.
+//! parts, at most r: of the r nodes that a call is given to read it uses the
+//! blocks of the q lowest, whatever blocks the others hold. Every number, set and
+//! length may be given: each call puts its questions, in the order of
+//! [`QUESTIONS`], and is refused by the first that is answered no. A refused call
+//! writes nothing.
 //!
 //! Each node has a **serial**, kept beside the codeword: n numbers, that of node
 //! 1 first, 0 after [`encode`]. A change goes out under a serial of its own, 1 or
