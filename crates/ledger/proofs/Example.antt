@@ -56,9 +56,9 @@ difference = on-held (delta (0x05 ∷ []) (0x00 ∷ 0x00 ∷ []) 0b011)
 abbrev open-blow : Event
 open-blow = damage 1 (0xff ∷ [])
 
--- the change is sent again, to all nodes; node 2 of W alone has a lower serial: FF 0C 0C, serials 1 1 0. It is closed.
+-- the change is sent again, to the nodes that were missed, and node 3, which is not of W: FF 0C 0C, serials 1 1 0. The two sends together have reached W.
 abbrev change-again : Event
-change-again = on-held (update (0x05 ∷ []) 0b011 1 0b111)
+change-again = on-held (update (0x05 ∷ []) 0b011 1 0b110)
 
 -- node 1 is rebuilt from nodes 2 and 3, whose highest serial is 1: 00 0C 0C, serials 1 1 0
 abbrev first-rebuild : Event
@@ -83,6 +83,10 @@ bad-set-up = on-held (encode (0x07 ∷ []) (0x01 ∷ 0x01 ∷ []))
 -- through one node: 8, though the serial is 0
 abbrev bad-change : Event
 bad-change = on-held (update (0x05 ∷ []) 0b001 0 0b001)
+
+-- lent other serials, too few: 6
+abbrev bad-serials : Event
+bad-serials = call (record { params = small; codeword = held; serials = other (0 ∷ 0 ∷ []) }) (update (0x05 ∷ []) 0b011 2 0b011)
 
 -- under serial 0: 24
 abbrev bad-serial : Event
@@ -122,15 +126,15 @@ bad-blow = damage 4 (0xff ∷ [])
 abbrev blow : Event
 blow = damage 1 (0xff ∷ [])
 
--- change 05 through nodes 1 and 2 leaves F9 0A 0C, serials 2 2 1, and node 1 damaged
+-- change 07 through nodes 1 and 3 leaves 75 0C 86, serials 2 1 2, and node 1 damaged
 abbrev change-over : Event
-change-over = on-held (update (0x05 ∷ []) 0b011 2 0b011)
+change-over = on-held (update (0x07 ∷ []) 0b101 2 0b101)
 
--- node 1 is rebuilt: 06 0A 0C, serials 2 2 1
+-- node 1 is rebuilt: 8A 0C 86, serials 2 1 2
 abbrev rebuild : Event
 rebuild = on-held (repair 0b110 0b001)
 
--- node 1 is damaged again, and its block copied into the next record, AA 2E 28, whose message is 09. Nodes 2 and 3 are written and take 2, node 1 keeps its own: 2 2 2
+-- node 1 is damaged again, and its block copied into the next record, AA 24 AE, whose message is 09. Nodes 2 and 3 are written and take 2, node 1 keeps its own: 2 2 2
 abbrev second-blow : Event
 second-blow = damage 1 (0xaa ∷ [])
 
@@ -189,7 +193,7 @@ first = viewing ∷ broken-change ∷ reading ∷ difference ∷ open-blow ∷ c
 
 abbrev second : List Event
 second =
-    bad-set-up ∷ bad-change ∷ bad-serial ∷ bad-rebuild ∷ bad-rearrangement ∷ bad-reading ∷ bad-difference ∷ bad-check ∷ bad-view ∷ bad-blow ∷
+    bad-set-up ∷ bad-change ∷ bad-serials ∷ bad-serial ∷ bad-rebuild ∷ bad-rearrangement ∷ bad-reading ∷ bad-difference ∷ bad-check ∷ bad-view ∷ bad-blow ∷
     blow ∷ change-over ∷ rebuild ∷ second-blow ∷ rearrangement ∷ widening ∷ []
 
 abbrev third : List Event
@@ -203,10 +207,10 @@ abbrev broken : Sends
 broken = sending (0x05 ∷ []) 0b011 1 0b001 noSends
 
 abbrev mended : Sends
-mended = sending (0x05 ∷ []) 0b011 1 0b111 broken
+mended = sending (0x05 ∷ []) 0b011 1 0b110 broken
 
 abbrev over : Sends
-over = sending (0x05 ∷ []) 0b011 2 0b011 mended
+over = sending (0x07 ∷ []) 0b101 2 0b101 mended
 
 abbrev spared : Sends
 spared = sending (0x05 ∷ []) 0b011 3 0b011 over
@@ -331,6 +335,8 @@ second-run =
     more {e = bad-set-up} ((tt, tt), bytes (0x07 ∷ []) tt, bytes (0x01 ∷ 0x01 ∷ []) tt) (λ z. absurd (never 5 z)) (encoded 6 _ _ (both-refused 5 refl)) (
     more {e = bad-change} ((tt, tt), bytes (0x05 ∷ []) tt, omega arith, omega arith, omega arith) (λ z. absurd (never 7 z))
     (updated 8 _ _ (both-refused 7 refl)) (
+    more {e = bad-serials} ((tt, words (0 ∷ 0 ∷ []) tt), bytes (0x05 ∷ []) tt, omega arith, omega arith, omega arith) (λ z. absurd (never 5 z))
+    (updated 6 _ _ (both-refused 5 refl)) (
     more {e = bad-serial} ((tt, tt), bytes (0x05 ∷ []) tt, omega arith, omega arith, omega arith) (λ z. absurd (never 23 z))
     (updated 24 _ _ (both-refused 23 refl)) (
     more {e = bad-rebuild} ((tt, tt), omega arith, omega arith) (λ z. absurd (never 8 z)) (repaired 9 _ _ (both-refused 8 refl)) (
@@ -344,22 +350,22 @@ second-run =
     (viewed {q = 10} [] refl (record { number = refl; served = λ z. absurd (never 9 z); refused = λ _. refl })) (
     more {e = bad-blow} (bytes (0xff ∷ []) tt) (λ _. tt) (damaged refl) (
     more {e = blow} (bytes (0xff ∷ []) tt) (λ _. tt) (damaged refl) (
-    more {e = change-over} ((tt, tt), bytes (0x05 ∷ []) tt, omega arith, omega arith, omega arith)
+    more {e = change-over} ((tt, tt), bytes (0x07 ∷ []) tt, omega arith, omega arith, omega arith)
     (λ _. (
       given-in-force _,
       record { same = λ e. absurd (true≢false (sym e)); higher = λ _ s e. mended-low s e; alone = λ _. mended-closed },
     ))
-    (updated 0 (0xf9 ∷ 0x0a ∷ 0x0c ∷ []) (2 ∷ 2 ∷ 1 ∷ []) (update-by _ _ _ _ _ _ _ _ _ (0x03 ∷ []) tt)) (
+    (updated 0 (0x75 ∷ 0x0c ∷ 0x86 ∷ []) (2 ∷ 1 ∷ 2 ∷ []) (update-by _ _ _ _ _ _ _ _ _ (0x8d ∷ []) tt)) (
     more {e = rebuild} ((tt, tt), omega arith, omega arith)
     (λ _. (given-in-force _, record { undamaged = undamaged-by _ 0b110 (omega arith) tt; closed = over-closed }))
-    (repaired 0 (0x06 ∷ 0x0a ∷ 0x0c ∷ []) (2 ∷ 2 ∷ 1 ∷ []) (repair-by _ _ _ _ _ _ _ (0x07 ∷ []) (0x01 ∷ []) tt)) (
+    (repaired 0 (0x8a ∷ 0x0c ∷ 0x86 ∷ []) (2 ∷ 1 ∷ 2 ∷ []) (repair-by _ _ _ _ _ _ _ (0x05 ∷ []) (0x8f ∷ []) tt)) (
     more {e = second-blow} (bytes (0xaa ∷ []) tt) (λ _. tt) (damaged refl) (
     more {e = rearrangement} ((tt, tt), bytes (0x00 ∷ 0x00 ∷ 0x00 ∷ []) tt, words (9 ∷ 9 ∷ 9 ∷ []) tt, bytes (0x09 ∷ []) tt, omega arith, omega arith)
     (λ _. (given-in-force _, record { undamaged = undamaged-by _ 0b110 (omega arith) tt; closed = over-closed }))
-    (reconfigured 0 (0xaa ∷ 0x2e ∷ 0x28 ∷ []) (2 ∷ 2 ∷ 2 ∷ []) (reconfigure-by _ _ _ _ _ _ _ _ _ (0x07 ∷ []) (0x01 ∷ []) (0x0f ∷ []) tt _ _ refl refl)) (
+    (reconfigured 0 (0xaa ∷ 0x24 ∷ 0xae ∷ []) (2 ∷ 2 ∷ 2 ∷ []) (reconfigure-by _ _ _ _ _ _ _ _ _ (0x05 ∷ []) (0x8f ∷ []) (0x83 ∷ []) tt _ _ refl refl)) (
     more {e = widening} ((tt, tt), bytes (0x00 ∷ 0x00 ∷ 0x00 ∷ []) tt, words (0 ∷ 0 ∷ 0 ∷ []) tt, bytes (0x01 ∷ 0x01 ∷ []) tt, omega arith, omega arith)
     (λ _. (given-in-force _, record { undamaged = undamaged-by _ 0b110 (omega arith) tt; closed = over-closed }))
-    (reconfigured 0 (0x00 ∷ 0x06 ∷ 0x06 ∷ []) (2 ∷ 2 ∷ 2 ∷ []) (reconfigure-by _ _ _ _ _ _ _ _ _ (0x09 ∷ []) (0x0f ∷ []) [] tt _ _ refl refl)) done)))))))))))))))
+    (reconfigured 0 (0x00 ∷ 0x06 ∷ 0x06 ∷ []) (2 ∷ 2 ∷ 2 ∷ []) (reconfigure-by _ _ _ _ _ _ _ _ _ (0x09 ∷ []) (0x83 ∷ []) [] tt _ _ refl refl)) done))))))))))))))))
 
 third-run : Run wide widened third left machine
 unfolding decodeGate updateGate repairGate reconfigureGate checkGate damageGate firstNo slackParts working
@@ -426,24 +432,24 @@ example-reading =
 pub example-ledger : (out : List ℕ) → Reading left machine out → out ≡ 0x04 ∷ []
 example-ledger out rd = reading-is-ledger example rd
 
--- ---- more than the request asks: the closed change of serial 3 is sent once more, though a rearrangement was written since
+-- ---- more than the request asks: the closed change of serial 2 is sent once more, though another change and rearrangements were written since
 
 abbrev late-send : Event
-late-send = call (record { params = record { k = 1; r = 3; w = 2; n = 3; b = 1 }; codeword = held; serials = held }) (update (0x05 ∷ []) 0b011 3 0b011)
+late-send = call (record { params = record { k = 1; r = 3; w = 2; n = 3; b = 1 }; codeword = held; serials = held }) (update (0x07 ∷ []) 0b101 2 0b101)
 
 -- what the machine then holds: the ledger is as it was
 abbrev late-machine : Machine
-late-machine = record { params = machine .params; ledger = 0x04 ∷ []; damaged = machine .damaged; sends = sending (0x05 ∷ []) 0b011 3 0b011 spared }
+late-machine = record { params = machine .params; ledger = 0x04 ∷ []; damaged = machine .damaged; sends = sending (0x07 ∷ []) 0b101 2 0b101 spared }
 
 late-run : Run left machine (late-send ∷ []) left late-machine
 unfolding updateGate firstNo slackParts working has size ones within count cell block point evaluate sum add mul pow
 late-run =
-    more {e = late-send} ((tt, tt), bytes (0x05 ∷ []) tt, omega arith, omega arith, omega arith)
+    more {e = late-send} ((tt, tt), bytes (0x07 ∷ []) tt, omega arith, omega arith, omega arith)
     (λ _. (
       given-in-force _,
       record { same = λ _. (refl, refl); higher = λ e. absurd (true≢false e); alone = λ e. absurd (true≢false e) },
     ))
-    (updated 0 (0xf2 ∷ 0xf7 ∷ 0x05 ∷ []) (3 ∷ 3 ∷ 2 ∷ []) (update-by _ _ _ _ _ _ _ _ _ (0x03 ∷ []) tt)) done
+    (updated 0 (0xf2 ∷ 0xf7 ∷ 0x05 ∷ []) (3 ∷ 3 ∷ 2 ∷ []) (update-by _ _ _ _ _ _ _ _ _ (0x8d ∷ []) tt)) done
 
 -- It moves nobody, and the list with it is a history too.
 pub example-late : History (events ++ late-send ∷ []) left late-machine

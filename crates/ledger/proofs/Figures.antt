@@ -114,7 +114,9 @@ table =
     repairs small (0x00 ∷ 0x0c ∷ 0xff ∷ []) (1 ∷ 2 ∷ 9 ∷ []) 0b011 0b100 (0x00 ∷ 0x0c ∷ 0x0c ∷ []) (1 ∷ 2 ∷ 2 ∷ []) ∷
     -- ".. or newly written": rearranged to (1,2,3,4), message 09, W' of 1, 2, 3, through 1, 2; node 4 is above n and takes it too
     reconfigures small (record { k = 1; r = 2; w = 3; n = 4 }) (0x00 ∷ 0x0c ∷ 0x0c ∷ []) (1 ∷ 1 ∷ 0 ∷ []) 0b0011 0b0111 (0x09 ∷ [])
-    (0xc0 ∷ 0x11 ∷ 0xd1 ∷ 0x28 ∷ []) (1 ∷ 1 ∷ 1 ∷ 1 ∷ []) ∷ []
+    (0xc0 ∷ 0x11 ∷ 0xd1 ∷ 0x28 ∷ []) (1 ∷ 1 ∷ 1 ∷ 1 ∷ []) ∷
+    -- to (1,1,1,1), message 09, through 2, 3: node 3, which is dropped, had the highest
+    reconfigures small (record { k = 1; r = 1; w = 1; n = 1 }) (0x00 ∷ 0x0c ∷ 0x0c ∷ []) (1 ∷ 1 ∷ 5 ∷ []) 0b110 0b001 (0x09 ∷ []) (0x09 ∷ []) (5 ∷ []) ∷ []
 
 -- Every row holds. The lists given are the slacks and pairs that the definitions speak of.
 pub figures : All holds table
@@ -147,4 +149,5 @@ figures =
     repair-by _ _ _ _ _ _ _ (0x02 ∷ []) (0x02 ∷ []) tt &
     repair-by _ _ _ _ _ _ _ (0x02 ∷ []) (0x02 ∷ []) tt &
     reconfigure-by _ _ _ _ _ _ _ _ _ (0x02 ∷ []) (0x02 ∷ []) (0xc9 ∷ []) tt &
+    reconfigure-by _ _ _ _ _ _ _ _ _ (0x02 ∷ []) (0x02 ∷ []) [] tt &
     tt
