@@ -186,21 +186,28 @@ copying =
     call (record { params = record { k = 1; r = 3; w = 2; n = 3; b = 1 }; codeword = held; serials = held })
     (reconfigure (record { k = 1; r = 3; w = 2; n = 3 }) (0x00 ∷ 0x00 ∷ 0x00 ∷ []) (0 ∷ 0 ∷ 0 ∷ []) (0x04 ∷ []) 0b111 0b011)
 
--- ---- the list, in three parts, since one as long would take much longer to check
+-- ---- the list, in parts, since one as long would take much longer to check
 
-abbrev first : List Event
-first = viewing ∷ broken-change ∷ reading ∷ difference ∷ open-blow ∷ change-again ∷ first-rebuild ∷ other-blow ∷ handing-rebuild ∷ checking ∷ []
+-- a change breaks off, ..
+abbrev breaking : List Event
+breaking = viewing ∷ broken-change ∷ reading ∷ difference ∷ open-blow ∷ []
+
+-- .. and is sent again
+abbrev mending : List Event
+mending = change-again ∷ first-rebuild ∷ other-blow ∷ handing-rebuild ∷ checking ∷ []
+
+abbrev refusals : List Event
+refusals =
+    bad-set-up ∷ bad-change ∷ bad-serials ∷ bad-serial ∷ bad-rebuild ∷ bad-rearrangement ∷ bad-reading ∷ bad-difference ∷ bad-check ∷ bad-view ∷ bad-blow ∷ []
 
 abbrev second : List Event
-second =
-    bad-set-up ∷ bad-change ∷ bad-serials ∷ bad-serial ∷ bad-rebuild ∷ bad-rearrangement ∷ bad-reading ∷ bad-difference ∷ bad-check ∷ bad-view ∷ bad-blow ∷
-    blow ∷ change-over ∷ rebuild ∷ second-blow ∷ rearrangement ∷ widening ∷ []
+second = blow ∷ change-over ∷ rebuild ∷ second-blow ∷ rearrangement ∷ widening ∷ []
 
 abbrev third : List Event
 third = sparing ∷ spare-check ∷ third-blow ∷ spare-rebuild ∷ fourth-blow ∷ spare-reading ∷ spare-rearrangement ∷ spare-change ∷ copying ∷ []
 
 abbrev pub events : List Event
-events = first ++ (second ++ third)
+events = breaking ++ (mending ++ (refusals ++ (second ++ third)))
 
 -- what is kept of the changes after each of them
 abbrev broken : Sends
@@ -238,6 +245,12 @@ unfolding has
 spared-closed = closed-by (spared .sent) (spared .to) (spared .reached) 4 spared-low tt
 
 -- what the parts leave, and what the machine then holds
+abbrev open-held : Held
+open-held = begun small (0xff ∷ 0x0a ∷ 0x0c ∷ []) (1 ∷ 0 ∷ 0 ∷ [])
+
+abbrev open-machine : Machine
+open-machine = record { params = small; ledger = 0x02 ∷ []; damaged = λ i. false || eqb i 1; sends = broken }
+
 abbrev repaired-held : Held
 repaired-held = begun small (0x00 ∷ 0x0c ∷ 0x0c ∷ []) (1 ∷ 1 ∷ 1 ∷ [])
 
@@ -246,7 +259,7 @@ mended-machine =
     record {
       params = small;
       ledger = 0x02 ∷ [];
-      damaged = λ i. (((false || eqb i 1) && not (has 0b001 i)) || eqb i 3) && not (has 0b100 i);
+      damaged = λ i. ((open-machine .damaged i && not (has 0b001 i)) || eqb i 3) && not (has 0b100 i);
       sends = mended;
     }
 
@@ -292,10 +305,10 @@ both-refused q e = record { number = e; served = λ z. absurd (never q z); refus
 record-in-force : (h : Held) → RecordInForce h (inForce h)
 record-in-force h = record { params = refl; codeword = refl }
 
-first-run : Run (begun small (0x06 ∷ 0x0a ∷ 0x0c ∷ []) (0 ∷ 0 ∷ 0 ∷ [])) (opened small (0x07 ∷ [])) first repaired-held mended-machine
-unfolding encodeGate decodeGate deltaGate updateGate repairGate checkGate viewGate damageGate firstNo slackParts working
-    has size ones within disjoint count lowest highest cell blocks tabulate block point evaluate sum add mul pow damagedWord plus
-first-run =
+breaking-run : Run (begun small (0x06 ∷ 0x0a ∷ 0x0c ∷ []) (0 ∷ 0 ∷ 0 ∷ [])) (opened small (0x07 ∷ [])) breaking open-held open-machine
+unfolding decodeGate deltaGate updateGate viewGate damageGate firstNo slackParts working
+    has size ones within count lowest cell blocks tabulate block point evaluate sum add mul pow damagedWord plus
+breaking-run =
     more {e = viewing} (tt, tt) (λ _. record-in-force _)
     (viewed (0x0a ∷ []) refl (record { number = refl; served = λ _. refl; refused = λ ne. absurd (ne refl) })) (
     more {e = broken-change} ((tt, tt), bytes (0x05 ∷ []) tt, omega arith, omega arith, omega arith)
@@ -312,7 +325,12 @@ first-run =
     (decoded 0 (0x02 ∷ []) (decode-by _ _ _ _ (0x02 ∷ []) tt _ refl)) (
     more {e = difference} (bytes (0x05 ∷ []) tt, bytes (0x00 ∷ 0x00 ∷ []) tt, omega arith) (λ _. refl)
     (differed 0 (0x06 ∷ 0x06 ∷ []) (delta-by _ _ _ _ (0x03 ∷ []) tt _ refl)) (
-    more {e = open-blow} (bytes (0xff ∷ []) tt) (λ _. tt) (damaged refl) (
+    more {e = open-blow} (bytes (0xff ∷ []) tt) (λ _. tt) (damaged refl) done))))
+
+mending-run : Run open-held open-machine mending repaired-held mended-machine
+unfolding updateGate repairGate checkGate damageGate firstNo slackParts working
+    has size ones within disjoint count lowest highest cell blocks tabulate block point evaluate sum add mul pow damagedWord plus
+mending-run =
     more {e = change-again} ((tt, tt), bytes (0x05 ∷ []) tt, omega arith, omega arith, omega arith)
     (λ _. (
       given-in-force _,
@@ -326,12 +344,12 @@ first-run =
     more {e = handing-rebuild} ((tt, tt), omega arith, omega arith)
     (λ _. (given-in-force _, record { undamaged = undamaged-by _ 0b011 (omega arith) tt; closed = mended-closed }))
     (repaired 0 (0x00 ∷ 0x0c ∷ 0x0c ∷ []) (1 ∷ 1 ∷ 1 ∷ []) (repair-by _ _ _ _ _ _ _ (0x02 ∷ []) (0x02 ∷ []) tt)) (
-    more {e = checking} (tt, tt) (λ _. record-in-force _) (checked Agrees refl (check-by _ _ (0x02 ∷ []) (0x02 ∷ []) tt)) done)))))))))
+    more {e = checking} (tt, tt) (λ _. record-in-force _) (checked Agrees refl (check-by _ _ (0x02 ∷ []) (0x02 ∷ []) tt)) done))))
 
-second-run : Run repaired-held mended-machine second wide widened
-unfolding encodeGate decodeGate deltaGate updateGate repairGate reconfigureGate checkGate viewGate damageGate firstNo slackParts working
-    has size ones within disjoint count lowest highest cell blocks tabulate block point evaluate sum add mul pow damagedWord plus
-second-run =
+-- what is refused alters nothing
+refused-run : Run repaired-held mended-machine refusals repaired-held mended-machine
+unfolding encodeGate decodeGate deltaGate updateGate repairGate reconfigureGate checkGate viewGate damageGate firstNo slackParts size ones within disjoint
+refused-run =
     more {e = bad-set-up} ((tt, tt), bytes (0x07 ∷ []) tt, bytes (0x01 ∷ 0x01 ∷ []) tt) (λ z. absurd (never 5 z)) (encoded 6 _ _ (both-refused 5 refl)) (
     more {e = bad-change} ((tt, tt), bytes (0x05 ∷ []) tt, omega arith, omega arith, omega arith) (λ z. absurd (never 7 z))
     (updated 8 _ _ (both-refused 7 refl)) (
@@ -348,7 +366,12 @@ second-run =
     (checked (Refused 6) refl (record { number = refl; served = λ z. absurd (never 5 z); refused = λ _. refl }, never 5)) (
     more {e = bad-view} (tt, tt) (λ z. absurd (never 9 z))
     (viewed {q = 10} [] refl (record { number = refl; served = λ z. absurd (never 9 z); refused = λ _. refl })) (
-    more {e = bad-blow} (bytes (0xff ∷ []) tt) (λ _. tt) (damaged refl) (
+    more {e = bad-blow} (bytes (0xff ∷ []) tt) (λ _. tt) (damaged refl) done))))))))))
+
+second-run : Run repaired-held mended-machine second wide widened
+unfolding updateGate repairGate reconfigureGate damageGate firstNo slackParts working
+    has size ones within disjoint count lowest highest cell blocks tabulate block point evaluate sum add mul pow damagedWord plus
+second-run =
     more {e = blow} (bytes (0xff ∷ []) tt) (λ _. tt) (damaged refl) (
     more {e = change-over} ((tt, tt), bytes (0x07 ∷ []) tt, omega arith, omega arith, omega arith)
     (λ _. (
@@ -365,7 +388,7 @@ second-run =
     (reconfigured 0 (0xaa ∷ 0x24 ∷ 0xae ∷ []) (2 ∷ 2 ∷ 2 ∷ []) (reconfigure-by _ _ _ _ _ _ _ _ _ (0x05 ∷ []) (0x8f ∷ []) (0x83 ∷ []) tt _ _ refl refl)) (
     more {e = widening} ((tt, tt), bytes (0x00 ∷ 0x00 ∷ 0x00 ∷ []) tt, words (0 ∷ 0 ∷ 0 ∷ []) tt, bytes (0x01 ∷ 0x01 ∷ []) tt, omega arith, omega arith)
     (λ _. (given-in-force _, record { undamaged = undamaged-by _ 0b110 (omega arith) tt; closed = over-closed }))
-    (reconfigured 0 (0x00 ∷ 0x06 ∷ 0x06 ∷ []) (2 ∷ 2 ∷ 2 ∷ []) (reconfigure-by _ _ _ _ _ _ _ _ _ (0x09 ∷ []) (0x83 ∷ []) [] tt _ _ refl refl)) done))))))))))))))))
+    (reconfigured 0 (0x00 ∷ 0x06 ∷ 0x06 ∷ []) (2 ∷ 2 ∷ 2 ∷ []) (reconfigure-by _ _ _ _ _ _ _ _ _ (0x09 ∷ []) (0x83 ∷ []) [] tt _ _ refl refl)) done)))))
 
 third-run : Run wide widened third left machine
 unfolding decodeGate updateGate repairGate reconfigureGate checkGate damageGate firstNo slackParts working
@@ -414,7 +437,7 @@ example =
       serials = 0 ∷ 0 ∷ 0 ∷ [];
       typed = (bytes (0x07 ∷ []) tt, bytes (0x01 ∷ []) tt, bytes (0xff ∷ 0xff ∷ 0xff ∷ []) tt, words (7 ∷ 7 ∷ 7 ∷ []) tt);
       opening = encode-by _ _ _ _ _ tt _ _ refl refl;
-      run = followed first-run (followed second-run third-run);
+      run = followed breaking-run (followed mending-run (followed refused-run (followed second-run third-run)));
     }
 
 -- .. after which the nodes read 04, by what decode means, ..
