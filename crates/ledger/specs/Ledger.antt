@@ -235,8 +235,8 @@ pub record Sendable (k : Sends) (d : List ℕ) (to serial : ℕ) : Type 0 where
   -- "no other change begins while one is open"
   pub alone : k .sent serial ≡ false → Closed k
 
--- A call may read R: R holds no damaged node, and every change is closed, "readings, those after a list too, rebuilds and rearrangements come between closed changes" (document
--- 02, 2026-03).
+-- A call may read R: R holds no damaged node, and every change is closed, "readings, those after a list too, rebuilds and rearrangements come between closed
+-- changes" (document 02, 2026-03).
 pub record Readable (m : Machine) (from : ℕ) : Type 0 where
   pub undamaged : Undamaged m from
   pub closed : Closed (m .sends)
