@@ -31,6 +31,14 @@ fn write_block(record: &mut [u8], trap: u64, block: &[u8]) {
     record[place(trap, block.len())].copy_from_slice(block);
 }
 
+/// Puts blocks of `b` bytes, in the rising order of their traps, at their places.
+pub fn write_blocks(record: &mut [u8], b: u64, traps: u32, blocks: &[u8]) {
+    let blocks = blocks.chunks_exact(b as usize);
+    for (trap, block) in traps_of(traps).into_iter().zip(blocks) {
+        write_block(record, trap, block);
+    }
+}
+
 /// Reading: the message of R's pair, the one that gives the blocks of R's q
 /// lowest traps.
 pub fn reading(a: &Arrangement, record: &[u8], read: u32, out: &mut [u8]) -> u64 {

@@ -1,9 +1,9 @@
-//! Lists of calls against document 01's ledger machine, as request 2026-03 has
-//! it: sends that break and are repeated, damage while a change is open, rebuilds,
-//! rearrangements and refused calls, at random over shapes of every sort. They can
-//! be put to any implementation.
+//! Lists of calls against document 01's ledger machine, as requests 2026-03 and
+//! 2026-04 have it: sends that break and are repeated, damage to several traps at
+//! once, also while a change is open, rebuilds, rearrangements and refused calls,
+//! at random over shapes of every sort. They can be put to any implementation.
 
-use crate::calls::{Move, Sending};
+use crate::calls::{write_blocks, Move, Sending};
 use crate::cases::Calls;
 use crate::corpus::draft::all;
 use crate::corpus::{any_shape, shapes, Rng};
@@ -80,8 +80,8 @@ impl<'a> List<'a> {
 
     fn any_event(&mut self, counts: &mut Counts) {
         match self.rng.below(100) {
-            0..=39 => self.send(counts),
-            40..=49 => self.damage(counts),
+            0..=34 => self.send(counts),
+            35..=49 => self.damage(counts),
             50..=59 => self.refused(counts),
             60..=69 => self.rebuild(counts),
             70..=79 => self.rearrange(counts),
@@ -143,15 +143,29 @@ impl<'a> List<'a> {
         true
     }
 
-    /// Damage, which keeps the trap's serial.
+    /// Damage to any set of traps, which keep their serials.
     fn damage(&mut self, counts: &mut Counts) {
-        let trap = self.rng.below(self.a.shape.n) as usize;
-        let size = self.a.b as usize;
-        let block = self.rng.bytes(self.a.b);
-        self.record[trap * size..(trap + 1) * size].copy_from_slice(&block);
-        self.damaged |= 1 << trap;
+        let (b, traps) = (self.a.b, self.damage_set());
+        let blocks = self.rng.blocks(traps, b);
+        write_blocks(&mut self.record, b, traps, &blocks);
+        let (again, new) = (traps & self.damaged, traps & !self.damaged);
+        self.damaged |= traps;
         self.written = true;
         counts.note("damage while a change is open", !self.is_closed());
+        counts.note("damage to several traps", traps.count_ones() > 1);
+        counts.note("damage to no trap", traps == 0);
+        counts.note("damage to damaged and undamaged", again != 0 && new != 0);
+    }
+
+    /// Damaged and undamaged traps, of which mostly r stay undamaged.
+    fn damage_set(&mut self) -> u32 {
+        let Shape { r, n, .. } = self.a.shape;
+        let undamaged = all(n) & !self.damaged;
+        let spare = u64::from(undamaged.count_ones()).saturating_sub(r);
+        let most = if self.rng.chance(10) { n } else { spare };
+        let size = self.rng.pick(&[0, 1, 1, 2, 3, 32]).min(most);
+        let again = self.rng.range(0, 3);
+        self.rng.choose(undamaged, size) | self.rng.choose(self.damaged, again)
     }
 
     /// R of undamaged traps, between closed changes.
@@ -257,7 +271,7 @@ pub fn test(calls: &dyn Calls, seed: u64) {
         }
         list.close(&mut counts);
     }
-    assert_eq!(counts.0.len(), 8);
+    assert_eq!(counts.0.len(), 11);
     for (what, count) in counts.0 {
         assert!(count > 1000, "{what}: {count}");
     }

@@ -1,8 +1,7 @@
 //! The season program: a file of a set-up and its events, a line for each.
 
 use crate::calls::{self, Move, Sending};
-use crate::gate::{ask_arrangement, ask_new_shape, ask_trap, Arrangement, Shape};
-use crate::pair::place;
+use crate::gate::{ask_arrangement, ask_new_shape, ask_within, Arrangement, Shape};
 use std::io::{self, Write};
 
 /// So many bytes are read; later ones do not count.
@@ -85,7 +84,7 @@ fn read_opening<'a>(input: &mut Input<'a>) -> Result<Opening<'a>, u64> {
 enum Event<'a> {
     Change { write: u32, d: &'a [u8] },
     Rebuild { read: u32, lost: u32 },
-    Damage { trap: u64, block: &'a [u8] },
+    Damage { traps: u32, blocks: &'a [u8] },
     Reading { read: u32 },
     Rearrangement(Move<'a>),
 }
@@ -101,16 +100,20 @@ fn read_event<'a>(input: &mut Input<'a>, kind: u64, a: &Arrangement) -> Result<E
             read: input.choice()?,
             lost: input.choice()?,
         }),
-        3 => Ok(Event::Damage {
-            trap: input.byte()?,
-            block: input.take(a.b)?,
-        }),
+        3 => read_damage(input, a.b),
         4 => Ok(Event::Reading {
             read: input.choice()?,
         }),
         5 => Ok(Event::Rearrangement(read_move(input, a.b)?)),
         _ => Err(UNKNOWN_KIND),
     }
+}
+
+/// A choice, and a block for each of its one bits, also for those above n.
+fn read_damage<'a>(input: &mut Input<'a>, b: u64) -> Result<Event<'a>, u64> {
+    let traps = input.choice()?;
+    let blocks = input.take(u64::from(traps.count_ones()) * b)?;
+    Ok(Event::Damage { traps, blocks })
 }
 
 fn read_move<'a>(input: &mut Input<'a>, b: u64) -> Result<Move<'a>, u64> {
@@ -172,16 +175,18 @@ impl State {
             Event::Rebuild { read, lost } => {
                 (calls::rebuild(&a, record, serials, *read, *lost), None)
             }
-            Event::Damage { trap, block } => (self.damage(*trap, block), None),
+            Event::Damage { traps, blocks } => (self.damage(*traps, blocks), None),
             Event::Reading { read } => self.reading(*read),
             Event::Rearrangement(given) => (self.rearrange(given), None),
         }
     }
 
-    fn damage(&mut self, trap: u64, block: &[u8]) -> u64 {
-        let number = ask_trap(trap, self.arrangement.shape.n);
+    /// All of the blocks are replaced, or none.
+    fn damage(&mut self, traps: u32, blocks: &[u8]) -> u64 {
+        let Arrangement { shape, b } = self.arrangement;
+        let number = ask_within(&[(traps, shape.n)]);
         if number == 0 {
-            self.record[place(trap, block.len())].copy_from_slice(block);
+            calls::write_blocks(&mut self.record, b, traps, blocks);
         }
         number
     }

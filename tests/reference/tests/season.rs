@@ -1,5 +1,9 @@
-//! The season program: document 01's example and the format's corners.
+//! The season program: document 01's example in the form of request 2026-04, and
+//! the format's corners.
 
+use reference::corpus::draft::{damage, reading, Draft};
+use reference::corpus::tight;
+use reference::field;
 use reference::season;
 use reference::season::LIMIT;
 
@@ -28,7 +32,7 @@ fn with_events(count: u16, events: &str) -> String {
 
 #[test]
 fn the_documents_example() {
-    let events = "01 00000003 05, 04 00000005, 01 00000005 02, 03 01 FF, 04 00000006";
+    let events = "01 00000003 05, 04 00000005, 01 00000005 02, 03 00000001 FF, 04 00000006";
     let expected = "0 0 0\n1 1 0\n2 4 0 02\n3 1 0\n4 3 0\n5 4 0 00\n";
     assert_eq!(with_events(5, events), expected);
 }
@@ -86,7 +90,9 @@ fn all_fields_are_read_before_an_event_is_tried() {
     for (kind, fields) in [
         (1, "01 000000FF"),
         (2, "02 000000FF 000000"),
-        (3, "03 00"),
+        (3, "03 0000FF"),
+        (3, "03 0000000C AA"),
+        (3, &format!("03 FFFFFFFF {}", "AA".repeat(31))),
         (4, "04 0000FF"),
         (5, "05 000000FF FFFF 0000 0000 0000 00000000 0102"),
     ] {
@@ -103,8 +109,9 @@ fn each_refusal_of_an_event() {
         ("02 00000003 00000008", "2 7"),
         ("02 00000001 00000002", "2 8"),
         ("02 00000003 00000002", "2 9"),
-        ("03 00 05", "3 10"),
-        ("03 04 05", "3 10"),
+        ("03 00000008 05", "3 7"),
+        ("03 0000000C AA BB", "3 7"),
+        (&format!("03 FFFFFFFF {}", "AA".repeat(32)), "3 7"),
         ("04 00000009", "4 7"),
         ("04 00000007", "4 8"),
         ("05 00000003 0001 0001 0001 0021 00000001 05", "5 11"),
@@ -134,7 +141,7 @@ fn lengths_follow_the_arrangement_in_force() {
 #[test]
 fn a_loose_arrangement() {
     let opening = "0005 0001 0002 0003 0003 0001, 0001 07,";
-    let events = "03 02 FF, 04 00000003, 04 00000006, 02 00000005 00000002, 04 00000006";
+    let events = "03 00000002 FF, 04 00000003, 04 00000006, 02 00000005 00000002, 04 00000006";
     assert_eq!(
         run_hex(&format!("{opening} 0000 0005 {events}")),
         "0 0 0\n1 3 0\n2 4 0 07\n3 4 0 f1\n4 2 0\n5 4 0 07\n"
@@ -142,6 +149,131 @@ fn a_loose_arrangement() {
     assert_eq!(
         run_hex(&format!("{opening} 0001 01 0005 {events}")),
         "0 0 6\n"
+    );
+}
+
+/// The file's answers to these events at (1,1,n,n), and then what each trap holds:
+/// its point times what it alone reads. At first trap i holds i times the message,
+/// whose bytes are 01, 02, ...
+fn answers_and_blocks(n: u64, b: u64, events: &[Vec<u8>]) -> (Vec<String>, Vec<Vec<u8>>) {
+    let readings = (0..n).map(|bit| reading(1 << bit));
+    let draft = Draft {
+        arrangement: tight(1, n, n).with(b),
+        message: (1..=b).map(|i| i as u8).collect(),
+        slack: Vec::new(),
+        events: events.iter().cloned().chain(readings).collect(),
+    };
+    let output = run(&draft.bytes());
+    let third = |line: &str| line.split(' ').skip(2).collect::<Vec<_>>().join(" ");
+    let mut answers: Vec<String> = output.lines().skip(1).map(third).collect();
+    let read = answers.split_off(events.len());
+    let held = |(digits, trap): (&String, u64)| {
+        let read = bytes(digits.strip_prefix("0 ").unwrap());
+        read.iter().map(|&x| field::mul(x, trap as u8)).collect()
+    };
+    (answers, read.iter().zip(1..).map(held).collect())
+}
+
+/// What the traps hold after the set-up.
+fn blocks_at_first(n: u64, b: u64) -> Vec<Vec<u8>> {
+    let block = |trap| (1..=b).map(|i| field::mul(i as u8, trap as u8)).collect();
+    (1..=n).map(block).collect()
+}
+
+#[test]
+fn a_box_is_replaced_in_rising_order() {
+    let given: Vec<u8> = (0xA1..=0xA9).collect();
+    let (answers, blocks) = answers_and_blocks(4, 3, &[damage(0b1101, &given)]);
+    assert_eq!(answers, ["0"]);
+    let second = blocks_at_first(4, 3)[1].clone();
+    let expected = [&given[..3], &second, &given[3..6], &given[6..]];
+    assert_eq!(blocks, expected);
+}
+
+#[test]
+fn all_of_a_box_is_replaced_or_none() {
+    for traps in [0b1_0000, 0b1_0001, 0b11_1111, 1 << 31 | 0b110, u32::MAX] {
+        let given = vec![0xEE; traps.count_ones() as usize * 2];
+        let (answers, blocks) = answers_and_blocks(4, 2, &[damage(traps, &given)]);
+        assert_eq!(answers, ["7"]);
+        assert_eq!(blocks, blocks_at_first(4, 2));
+    }
+}
+
+/// It has no block, so that the next event follows its choice.
+#[test]
+fn an_empty_box_is_accepted() {
+    let empty = damage(0, &[]);
+    let (answers, blocks) = answers_and_blocks(3, 1024, &[empty.clone(), empty]);
+    assert_eq!(answers, ["0", "0"]);
+    assert_eq!(blocks, blocks_at_first(3, 1024));
+    assert_eq!(with_events(1, "03 00000000"), "0 0 0\n1 3 0\n");
+    let left_over = with_events(1, "03 00000000 AA");
+    assert_eq!(left_over, "0 0 0\n1 3 0\n2 0 23\n");
+}
+
+#[test]
+fn traps_above_n_have_their_blocks_in_the_file() {
+    let events = "03 0000000C AA BB, 04 00000003, 03 80000000 04, 04 00000006";
+    let expected = "0 0 0\n1 3 7\n2 4 0 07\n3 3 7\n4 4 0 07\n";
+    assert_eq!(with_events(4, events), expected);
+}
+
+/// 32 blocks of 1,024 bytes, also where n is less.
+#[test]
+fn the_largest_box() {
+    let given: Vec<u8> = (0..32 * 1024).map(|i| (i / 1024 + i % 251) as u8).collect();
+    for (n, answer) in [(32, "0"), (31, "7"), (3, "7"), (1, "7")] {
+        let (answers, blocks) = answers_and_blocks(n, 1024, &[damage(u32::MAX, &given)]);
+        assert_eq!(answers, [answer]);
+        let first = blocks_at_first(n, 1024).concat();
+        assert!(blocks.concat() == if n == 32 { given.clone() } else { first });
+    }
+}
+
+/// The bytes end before all of a box's fields are read: 21, and not 7.
+#[test]
+fn a_box_that_ends_early() {
+    for n in [32, 31, 3] {
+        let mut draft = Draft {
+            arrangement: tight(1, n, n).with(1024),
+            message: vec![7; 1024],
+            slack: Vec::new(),
+            events: Vec::new(),
+        };
+        let start = draft.length();
+        draft.events.push(damage(u32::MAX, &[9; 32 * 1024]));
+        let whole = draft.bytes();
+        let answer = if n == 32 { 0 } else { 7 };
+        assert_eq!(run(&whole), format!("0 0 0\n1 3 {answer}\n"));
+        for length in [start + 1, start + 4, start + 5, whole.len() - 1] {
+            assert_eq!(run(&whole[..length]), "0 0 0\n1 3 21\n");
+        }
+    }
+}
+
+/// The same box at three traps, at four, and at three again.
+#[test]
+fn a_box_goes_by_the_arrangement_in_force() {
+    let boxed = "03 0000000A AA BB";
+    let grown = "05 00000003 0001 0002 0003 0004 0000000E 09";
+    let back = "05 00000005 0001 0002 0002 0003 00000003 07";
+    let events = format!("{boxed} 04 00000003 {grown} {boxed} 04 00000005 {back} {boxed}");
+    let expected = "0 0 0\n1 3 7\n2 4 0 07\n3 5 0\n4 3 0\n5 4 0 09\n6 5 0\n7 3 7\n";
+    assert_eq!(with_events(7, &events), expected);
+}
+
+/// (1,2,4,5): a box with a damaged trap and an undamaged one, and its rebuild.
+#[test]
+fn damage_over_damage_and_a_rebuild() {
+    let opening = "0005 0001 0002 0004 0005 0001, 0001 07, 0001 01, 0009";
+    let boxes = "03 00000002 EE, 03 0000000A AA BB";
+    let around = "04 00000005, 04 00000014";
+    let rebuild = "02 00000011 0000000A";
+    let through = "04 00000003, 04 0000000A, 04 00000018, 04 0000000C";
+    assert_eq!(
+        run_hex(&format!("{opening} {boxes} {around} {rebuild} {through}")),
+        "0 0 0\n1 3 0\n2 3 0\n3 4 0 07\n4 4 0 07\n5 2 0\n6 4 0 07\n7 4 0 07\n8 4 0 07\n9 4 0 07\n"
     );
 }
 

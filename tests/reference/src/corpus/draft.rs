@@ -76,37 +76,35 @@ fn shape_bytes(shape: &Shape) -> Vec<u8> {
     numbers.iter().flat_map(|&x| number(x)).collect()
 }
 
-pub fn change(write: u32, d: &[u8]) -> Vec<u8> {
-    let mut out = vec![1];
-    out.extend(write.to_be_bytes());
-    out.extend(d);
+/// An event whose first field is a choice.
+fn event(kind: u8, choice: u32, rest: &[u8]) -> Vec<u8> {
+    let mut out = vec![kind];
+    out.extend(choice.to_be_bytes());
+    out.extend(rest);
     out
+}
+
+pub fn change(write: u32, d: &[u8]) -> Vec<u8> {
+    event(1, write, d)
 }
 
 pub fn rebuild(read: u32, lost: u32) -> Vec<u8> {
-    let mut out = vec![2];
-    out.extend(read.to_be_bytes());
-    out.extend(lost.to_be_bytes());
-    out
+    event(2, read, &lost.to_be_bytes())
 }
 
-pub fn damage(trap: u64, block: &[u8]) -> Vec<u8> {
-    let mut out = vec![3, trap as u8];
-    out.extend(block);
-    out
+pub fn damage(traps: u32, blocks: &[u8]) -> Vec<u8> {
+    event(3, traps, blocks)
 }
 
 pub fn reading(read: u32) -> Vec<u8> {
-    let mut out = vec![4];
-    out.extend(read.to_be_bytes());
-    out
+    event(4, read, &[])
 }
 
 pub fn rearrangement(read: u32, to: &Shape, write: u32, message: &[u8]) -> Vec<u8> {
-    let mut out = vec![5];
-    out.extend(read.to_be_bytes());
-    out.extend(shape_bytes(to));
-    out.extend(write.to_be_bytes());
-    out.extend(message);
-    out
+    let shape = shape_bytes(to);
+    event(
+        5,
+        read,
+        &[&shape[..], &write.to_be_bytes(), message].concat(),
+    )
 }

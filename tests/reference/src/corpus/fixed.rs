@@ -73,7 +73,7 @@ fn examples(store: &mut Store) -> io::Result<()> {
 /// A short file with every kind of event, and with two parts of each sort.
 fn small_file(rng: &mut Rng, now: Arrangement, to: Shape) -> Vec<u8> {
     let mut script = Script::new(rng, now);
-    script.damage();
+    script.damage_some(2);
     script.rebuild();
     script.change();
     script.reading();
@@ -446,7 +446,6 @@ fn refused_events(script: &mut Script) -> Vec<Vec<u8>> {
     let Arrangement { shape, b } = script.now;
     let Shape { k, r, w, n } = shape;
     let d = script.rng.bytes(k * b);
-    let block = script.rng.bytes(b);
     let mut events = Vec::new();
     for wrong in wrong_choices(script, n, w) {
         events.push(change(wrong, &d));
@@ -468,8 +467,8 @@ fn refused_events(script: &mut Script) -> Vec<Vec<u8>> {
     events.push(rebuild(all(r), 1));
     events.push(rebuild(all(r), 1 << (r - 1)));
     events.push(rebuild(all(r), all(n)));
-    for trap in [0, n + 1, 33, 64, 65, 128, 129, 130, 255] {
-        events.push(damage(trap, &block));
+    for traps in choices_above(n) {
+        events.push(damage(traps, &script.rng.blocks(traps, b)));
     }
     for to in refused_shapes() {
         let message = script.rng.bytes(to.k * b);
@@ -491,6 +490,18 @@ fn wrong_choices(script: &mut Script, n: u64, size: u64) -> Vec<u32> {
         choices.push(script.rng.choose(all(n), size) | 1 << 31);
         choices.push(u32::MAX);
     }
+    choices
+}
+
+/// Choices with a trap above n, alone or with others; none if n is 32.
+fn choices_above(n: u64) -> Vec<u32> {
+    let (within, above) = (all(n), !all(n));
+    if above == 0 {
+        return Vec::new();
+    }
+    let (next, last) = (1 << n, 1 << 31);
+    let mut choices = vec![next, last, above, u32::MAX];
+    choices.extend([1 | next, within | next, within | last]);
     choices
 }
 
@@ -641,8 +652,9 @@ fn copied_damage(store: &mut Store, rng: &mut Rng) -> io::Result<()> {
     for (from, to, write) in moves {
         for trap in 1..=from.n {
             let mut script = Script::new(rng, from.with(3));
-            script.damage_to(trap);
-            let sound = all(from.n) & !(1 << (trap - 1));
+            let damaged = 1 << (trap - 1);
+            script.damage_to(damaged);
+            let sound = all(from.n) & !damaged;
             let read = script.rng.choose(sound, from.r);
             script.rearrange_through(read, to, write);
             script.read_windows();
@@ -656,7 +668,7 @@ fn copied_damage(store: &mut Store, rng: &mut Rng) -> io::Result<()> {
     Ok(())
 }
 
-/// Loose shapes with damage in one of R's r - q traps that are not used, before
+/// Loose shapes with damage in some of R's r - q traps that are not used, before
 /// a reading, a rebuild and rearrangements through R.
 fn spare_damage(store: &mut Store, rng: &mut Rng) -> io::Result<()> {
     let shapes = [
@@ -688,8 +700,9 @@ fn through_spare_damage(script: &mut Script) {
     let shape = script.now.shape;
     let read = script.rng.choose(all(shape.n), shape.r);
     let spare = read & !script.lowest(read);
-    let trap = script.rng.choose(spare, 1);
-    script.damage_to(u64::from(trap.trailing_zeros()) + 1);
+    let size = script.rng.range(1, 3);
+    let traps = script.rng.choose(spare, size);
+    script.damage_to(traps);
     script.read(read);
     script.change();
     script.read(read);

@@ -20,19 +20,24 @@ pub fn write(store: &mut Store, rng: &mut Rng) -> io::Result<()> {
     block_lengths(store, rng)
 }
 
-/// Adds damages and readings until the file is exactly so long. The blocks are
-/// of `b` bytes and n is 3; the length left must be at least 5·(b + 2).
+/// Adds rebuilds, readings and damages until the file is exactly so long. The
+/// blocks are of `b` bytes and n is 3; the length left must be at least
+/// 5·(b + 5) + 36.
 fn fill(rng: &mut Rng, draft: &mut Draft, length: usize) {
-    let one = draft.arrangement.b as usize + 2;
+    let b = draft.arrangement.b;
+    let one = b as usize + 5;
     let mut left = length - draft.length();
+    while !left.is_multiple_of(5) {
+        draft.events.push(rebuild(rng.pick(&[3, 5, 6, 7]), 4));
+        left -= 9;
+    }
     while !left.is_multiple_of(one) {
         draft.events.push(reading(rng.pick(&[3, 5, 6, 6, 7, 9])));
         left -= 5;
     }
     for _ in 0..left / one {
-        let trap = rng.pick(&[1, 2, 3, 3, 0]);
-        let block = rng.bytes(draft.arrangement.b);
-        draft.events.push(damage(trap, &block));
+        let trap = rng.pick(&[1, 2, 4, 4, 8]);
+        draft.events.push(damage(trap, &rng.bytes(b)));
     }
 }
 
@@ -74,6 +79,9 @@ fn cut_events(store: &mut Store, rng: &mut Rng) -> io::Result<()> {
         change(3, &rng.bytes(50)),
         rebuild(3, 4),
         damage(2, &rng.bytes(50)),
+        damage(5, &rng.bytes(100)),
+        damage(u32::MAX, &rng.bytes(1600)),
+        damage(0, &[]),
         reading(5),
         rearrangement(5, &to, 7, &rng.bytes(100)),
         vec![77],
@@ -128,9 +136,11 @@ fn many_events(store: &mut Store, rng: &mut Rng) -> io::Result<()> {
     readings.events = vec![reading(1); (LIMIT - readings.length()) / 5];
     store.put("many", &readings.bytes())?;
     let mut damages = Script::new(rng, tight(1, 1, 1).with(1)).draft;
-    let count = (LIMIT - damages.length()) / 3;
-    damages.events = (0..count)
-        .map(|i| damage(i as u64 % 3, &[i as u8]))
+    let room = LIMIT - damages.length();
+    damages.events = vec![damage(0, &[]); room / 5];
+    store.put("many", &damages.bytes())?;
+    damages.events = (0..room / 6)
+        .map(|i| damage(1 << (i % 2), &[i as u8]))
         .collect();
     store.put("many", &damages.bytes())?;
     let counts = Counts {
@@ -211,7 +221,8 @@ fn large_damage(store: &mut Store, rng: &mut Rng) -> io::Result<()> {
     ] {
         let mut script = Script::new(rng, shape.with(1024));
         while script.draft.length() < 50_000 {
-            script.damage();
+            let size = script.rng.range(1, 3);
+            script.damage_some(size);
             script.read_some_windows(1);
             script.rebuild();
             script.read_some_windows(1);
@@ -266,7 +277,7 @@ fn changes(script: &mut Script) {
             break;
         }
         if step == 1 {
-            script.damage();
+            script.damage_some(1);
         }
         script.change();
         script.read_some_windows(2);

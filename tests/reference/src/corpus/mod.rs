@@ -1,6 +1,7 @@
 //! The corpus: season files made by rule and at random, the same for the same
 //! seed and count.
 
+mod boxes;
 pub mod draft;
 mod fixed;
 mod limits;
@@ -26,6 +27,7 @@ pub const DEFAULT_SEED: u64 = 1;
 pub fn make(store: &mut Store, seed: u64, count: u64) -> io::Result<()> {
     let mut rng = Rng::new(seed);
     fixed::write(store, &mut rng)?;
+    boxes::write(store, &mut rng)?;
     limits::write(store, &mut rng)?;
     random::write(store, &mut rng, count)
 }

@@ -74,9 +74,9 @@ fn repaired(store: &mut Store, rng: &mut Rng) -> io::Result<()> {
     for _ in 0..3 {
         let spare = script.now.shape.n - script.now.shape.r;
         let lost = script.rng.range(0, spare);
-        for _ in 0..lost {
-            script.damage();
-        }
+        let at_once = script.rng.range(0, lost);
+        script.damage_some(at_once);
+        script.damage_some(lost - at_once);
         script.change();
         script.read_some_windows(2);
         script.rebuild();

@@ -44,6 +44,11 @@ impl Rng {
         (0..count).map(|_| self.word() as u8).collect()
     }
 
+    /// A block of `b` bytes for each trap of a choice.
+    pub fn blocks(&mut self, traps: u32, b: u64) -> Vec<u8> {
+        self.bytes(u64::from(traps.count_ones()) * b)
+    }
+
     pub fn pick<T: Copy>(&mut self, from: &[T]) -> T {
         from[self.below(from.len() as u64) as usize]
     }

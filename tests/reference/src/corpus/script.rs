@@ -89,28 +89,40 @@ impl<'a> Script<'a> {
         self.push(draft::change(write, &d));
     }
 
+    /// Damage to a few traps, mostly; at times to none or to all.
     pub fn damage(&mut self) {
-        let trap = self.rng.range(1, self.now.shape.n);
-        self.damage_to(trap);
+        let n = self.now.shape.n;
+        let size = self.rng.pick(&[0, 1, 1, 1, 1, 2, 2, 2, 3, 3, 4, n]);
+        self.damage_some(size);
     }
 
-    pub fn damage_to(&mut self, trap: u64) {
-        let block = self.rng.bytes(self.now.b);
-        self.damaged |= 1 << (trap - 1);
-        self.push(draft::damage(trap, &block));
+    /// Damage to so many traps.
+    pub fn damage_some(&mut self, size: u64) {
+        let traps = self.any(size);
+        self.damage_to(traps);
+    }
+
+    pub fn damage_to(&mut self, traps: u32) {
+        let blocks = self.rng.blocks(traps, self.now.b);
+        self.damaged |= traps;
+        self.push(draft::damage(traps, &blocks));
     }
 
     /// Rebuilds some traps outside R, mostly the damaged ones.
     pub fn rebuild(&mut self) {
+        if self.rng.chance(60) {
+            return self.repair();
+        }
         let read = self.read_choice();
-        let outside = all(self.now.shape.n) & !read;
-        let lost = if self.rng.chance(60) {
-            outside & self.damaged
-        } else {
-            let size = self.rng.range(0, 32);
-            self.rng.choose(outside, size)
-        };
+        let size = self.rng.range(0, 32);
+        let lost = self.rng.choose(all(self.now.shape.n) & !read, size);
         self.rebuild_from(read, lost);
+    }
+
+    /// Rebuilds the damaged traps outside R.
+    pub fn repair(&mut self) {
+        let read = self.read_choice();
+        self.rebuild_from(read, self.damaged & !read);
     }
 
     pub fn rebuild_from(&mut self, read: u32, lost: u32) {
@@ -239,12 +251,21 @@ impl<'a> Script<'a> {
         }
     }
 
+    /// Refused by a trap above n, alone or with others; if there is none, the
+    /// event is a refused reading.
     fn refused_damage(&mut self) -> Vec<u8> {
-        let above = self.rng.range(self.now.shape.n + 1, 255);
-        let next = self.now.shape.n + 1;
-        let trap = self.rng.pick(&[0, next, above]);
-        let block = self.rng.bytes(self.now.b);
-        draft::damage(trap, &block)
+        let above = !all(self.now.shape.n);
+        if above == 0 {
+            return self.refused_reading();
+        }
+        let one = self.rng.choose(above, 1);
+        let few = self.any(2);
+        let some = self.rng.word() as u32;
+        let traps = self
+            .rng
+            .pick(&[one, one | few, one | few, one | some, u32::MAX]);
+        let blocks = self.rng.blocks(traps, self.now.b);
+        draft::damage(traps, &blocks)
     }
 
     fn refused_rearrangement(&mut self) -> Vec<u8> {

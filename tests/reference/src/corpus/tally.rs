@@ -9,7 +9,7 @@ const COLUMNS: [(&str, &[u64]); 7] = [
     ("opening", &[0, 1, 2, 3, 4, 5, 6, 20, 21]),
     ("kind 1", &[0, 7, 8, 21]),
     ("kind 2", &[0, 7, 8, 9, 21]),
-    ("kind 3", &[0, 10, 21]),
+    ("kind 3", &[0, 7, 21]),
     ("kind 4", &[0, 7, 8, 21]),
     ("kind 5", &[0, 7, 8, 11, 12, 13, 14, 21]),
     ("other", &[21, 22, 23]),
@@ -64,6 +64,19 @@ impl Tally {
             missing.extend(answers.iter().filter(absent).map(|&a| (*column, a)));
         }
         missing
+    }
+
+    /// The answers that came up where no file can bring them about.
+    pub fn foreign(&self) -> Vec<(&'static str, u64)> {
+        let mut foreign = Vec::new();
+        for (&answer, counts) in &self.answers {
+            for ((column, answers), count) in COLUMNS.iter().zip(counts) {
+                if *count > 0 && !answers.contains(&answer) {
+                    foreign.push((*column, answer));
+                }
+            }
+        }
+        foreign
     }
 }
 

@@ -3,7 +3,8 @@
 //! a file past the limit and on a worst case, and compares what it writes.
 //!
 //! Each difference is reported, and its file is written to FOLDER; the exit
-//! status is then 1. It is 1 too if some answer or fault never came up.
+//! status is then 1. It is 1 too if some answer or fault never came up, or came
+//! up where it cannot.
 
 mod files;
 mod judge;
@@ -18,10 +19,11 @@ use std::path::{Path, PathBuf};
 use std::process::ExitCode;
 
 /// The folders of stored files, each with its family.
-const STORED: [(&str, &str); 3] = [
+const STORED: [(&str, &str); 4] = [
     ("examples", "examples"),
     ("vectors", "tests/vectors/season"),
     ("2026-01", "tests/vectors/2026-01-season"),
+    ("2026-04", "tests/vectors/2026-04-season"),
 ];
 
 const DEFAULT_FOLDER: &str = "target/season_corpus";
@@ -48,7 +50,8 @@ fn arguments() -> Option<Arguments> {
     })
 }
 
-/// Runs everything; true if nothing differed and nothing is missing.
+/// Runs everything; true if nothing differed, and the answers that came up are
+/// those that can.
 fn run(given: &Arguments) -> io::Result<bool> {
     let program = Program::new(&given.program);
     let judge = Judge::new(&given.folder)?;
@@ -70,12 +73,16 @@ fn run(given: &Arguments) -> io::Result<bool> {
     for (column, answer) in &missing {
         println!("never came up: {column}, answer {answer}");
     }
+    let foreign = tally.foreign();
+    for (column, answer) in &foreign {
+        println!("cannot come up: {column}, answer {answer}");
+    }
     println!(
         "files that differ: {} (kept in {})",
         judge.differing(),
         given.folder.display()
     );
-    Ok(judge.differing() == 0 && missing.is_empty())
+    Ok(judge.differing() == 0 && missing.is_empty() && foreign.is_empty())
 }
 
 fn main() -> ExitCode {

@@ -22,7 +22,8 @@ fn draft() -> Draft {
         events: Vec::new(),
     };
     for trap in 1..=DAMAGES {
-        draft.events.push(damage(2 * trap, &rng.bytes(1024)));
+        let second = 1 << (2 * trap - 1);
+        draft.events.push(damage(second, &rng.bytes(1024)));
         let readings = vec![reading(u32::MAX); READINGS_AFTER_EACH];
         draft.events.extend(readings);
     }
