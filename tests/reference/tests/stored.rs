@@ -41,6 +41,7 @@ fn calls() {
 fn season_files() {
     assert_eq!(test_season("tests/vectors/season"), 222);
     assert_eq!(test_season("tests/vectors/2026-01-season"), 120);
+    assert_eq!(test_season("tests/vectors/2026-04-season"), 120);
 }
 
 #[test]
