@@ -1,5 +1,5 @@
-//! A reference of document 01 and of requests 2026-01 and 2026-03 of document 02,
-//! written from these documents alone.
+//! A reference of document 01 and of requests 2026-01, 2026-03 and 2026-04 of
+//! document 02, written from these documents alone.
 //!
 //! It shares no method with an implementation by tables and elimination:
 //! products are made by shift and reduce, the pair is found by Newton's
