@@ -1,7 +1,7 @@
 -- What the questions' answers say of the parameters, test by test; a gate is 0 exactly where the call's facts hold. Assumes nothing.
 use mathlib.Core.Path.{_≡_, sym, ap₂, _∙_}
 use mathlib.Core.Logic.{_↔_}
-use mathlib.Core.Bool.{_&&_}
+use mathlib.Core.Bool.{true, _&&_}
 use mathlib.Core.List.{List, [], _∷_, _++_, List·Memᴰ}
 use Prim.Native.Nat.{ℕ, _+_, _-_, _*_, _≤_}
 use native.Mathlib.Nat.{le-trans, mul-le-mul}
@@ -14,7 +14,7 @@ use Rattle.base.specs.Gate.{Question, firstNo}
 use Rattle.params.specs.Nodes.{size, within}
 use Rattle.params.specs.Params.{slackParts, working, shapeOf}
 use Rattle.gates.specs.Gates.{shapeAsked, paramsAsked, lengthsAsked, encodeGate, checkGate, decodeGate, deltaGate, updateGate, repairGate, viewGate, reconfigureGate, damageGate}
-use Rattle.gates.specs.Valid.{ValidShape, Valid, EncodeAccepted, CheckAccepted, DecodeAccepted, DeltaAccepted, UpdateAccepted, RepairAccepted, DamageAccepted, ViewAccepted, ReconfigureAccepted}
+use Rattle.gates.specs.Valid.{ValidShape, Valid, EncodeAccepted, CheckAccepted, DecodeAccepted, DeltaAccepted, UpdateAccepted, RepairAccepted, ViewAccepted, ReconfigureAccepted}
 use Rattle.params.specs.declared.Params.{Params}
 use Rattle.params.specs.declared.Shape.{Shape}
 use Rattle.base.proofs.Questions.{YesAnd, all-yes, first-zero, among, both-known, both-le, both-eq}
@@ -257,16 +257,13 @@ pub repair-number : (a : Params) (codeword serials from lost : ℕ)
 unfolding repairGate
 repair-number a codeword serials from lost = among _
 
-pub damage-accepted : (n i : ℕ) → (damageGate n i ≡ 0) ↔ DamageAccepted n i
+pub damage-accepted : (n s : ℕ) → (damageGate n s ≡ 0) ↔ (within n s ≡ true)
 unfolding damageGate
-damage-accepted n i = (
-  λ e. let y = both-le 1 i i n (all-yes _ tt e .0) in record { node-low = y .0; node-high = y .1 },
-  λ d. first-zero _ (ap₂ _&&_ (le-leb _ _ (d .node-low)) (le-leb _ _ (d .node-high)), tt),
-)
+damage-accepted n s = (λ e. all-yes _ tt e .0, λ d. first-zero _ (d, tt))
 
-pub damage-number : (n i : ℕ) → List·Memᴰ (damageGate n i) (0 ∷ 10 ∷ [])
+pub damage-number : (n s : ℕ) → List·Memᴰ (damageGate n s) (0 ∷ 7 ∷ [])
 unfolding damageGate
-damage-number n i = among _
+damage-number n s = among _
 
 pub view-accepted : (a : Params) (codeword i : ℕ) → (viewGate a codeword i ≡ 0) ↔ ViewAccepted a codeword i
 unfolding viewGate
@@ -277,12 +274,13 @@ view-accepted a codeword i = (
       record {
         valid = y .0;
         codeword-length = eqb-true codeword (a .n * a .b) (y .1 .0);
-        node = record { node-low = node .0; node-high = node .1 };
+        node-low = node .0;
+        node-high = node .1;
       },
   λ d.
       first-zero _
       (params-yes a (d .valid)
-      (eq-eqb _ _ (d .codeword-length), (ap₂ _&&_ (le-leb _ _ (d .node .node-low)) (le-leb _ _ (d .node .node-high)), tt))),
+      (eq-eqb _ _ (d .codeword-length), (ap₂ _&&_ (le-leb _ _ (d .node-low)) (le-leb _ _ (d .node-high)), tt))),
 )
 
 pub view-number : (a : Params) (codeword i : ℕ)

@@ -104,6 +104,6 @@ reconfigureGate a t old serials new numbers message from to =
     ((eqb serials (a .n) && eqb numbers (t .n)) && ((eqb old (a .n * a .b) && eqb new (t .n * a .b)) && eqb message (t .k * a .b))) ∷
     namesAsked (within (a .n) from && within (t .n) to) ∷ sizesAsked (eqb (size from) (a .r) && eqb (size to) (t .w)) ∷ [])
 
--- "A damage event puts only 10."
+-- A damage event with a set: "All are replaced, or none if a trap is above n (answer 7; 10 no longer comes from events)" (document 02, 2026-04)
 unfoldable pub damageGate : ℕ → ℕ → ℕ
-damageGate n i = firstNo (nodeAsked n i ∷ [])
+damageGate n s = firstNo (namesAsked (within n s) ∷ [])

@@ -67,15 +67,11 @@ pub record RepairAccepted (a : Params) (codeword serials from lost : ℕ) : Type
   pub from-size : size from ≡ a .r
   pub apart : disjoint lost from ≡ true
 
--- Question 10.
-pub record DamageAccepted (n i : ℕ) : Type 0 where
-  pub node-low : 1 ≤ i
-  pub node-high : i ≤ n
-
 pub record ViewAccepted (a : Params) (codeword i : ℕ) : Type 0 where
   pub valid : Valid a
   pub codeword-length : codeword ≡ a .n * a .b
-  pub node : DamageAccepted (a .n) i
+  pub node-low : 1 ≤ i
+  pub node-high : i ≤ a .n
 
 pub record ReconfigureAccepted (a : Params) (t : Shape) (old serials new numbers message from to : ℕ) : Type 0 where
   pub valid : Valid a

@@ -11,7 +11,7 @@ ghost use Prim.Native.Nat.{_*_, _≤_};
 ghost use lib.Dec.{eqb};
 ghost use Rattle.base.specs.Gate.{ask, firstNo};
 ghost use Rattle.params.specs.Nodes.{size, within};
-ghost use Rattle.gates.specs.Gates.{paramsAsked, lengthsAsked, namesAsked, sizesAsked};
+ghost use Rattle.gates.specs.Gates.{paramsAsked, lengthsAsked, namesAsked, sizesAsked, nodeAsked};
 ghost use Rattle.gates.specs.Gates.{encodeGate, checkGate, decodeGate, deltaGate, updateGate, repairGate, viewGate, reconfigureGate, damageGate};
 ghost use Rattle.gates.specs.Valid.{Valid};
 
@@ -168,7 +168,7 @@ pub fn view_gate(a: Params, codeword: usize, node: Node) -> u32
     ensures { λ r. ⌜ r ≡ viewGate a codeword (node .0) ⌝ }
 {
     let record = check_gate(a, codeword);
-    let number = damage_gate(a.n, node);
+    let number = node_gate(a.n, node);
     if record != 0 {
         return record;
     }
@@ -212,13 +212,23 @@ pub fn reconfigure_gate(
     )
 }
 
-// A damage event: question 10 alone.
-pub fn damage_gate(n: usize, node: Node) -> u32
-    ensures { λ r. ⌜ r ≡ damageGate n (node .0) ⌝ }
+// Question 10 alone.
+fn node_gate(n: usize, node: Node) -> u32
+    ensures { λ r. ⌜ r ≡ firstNo (nodeAsked n (node .0) ∷ []) ⌝ }
 {
     let number = node.0 as usize;
     if (number < 1) | (n < number) {
         return 10;
     }
     0
+}
+
+// A damage event, with the set of its nodes: question 7 alone.
+pub fn damage_gate(n: usize, nodes: NodeSet) -> u32
+    ensures { λ r. ⌜ r ≡ damageGate n (nodes .0) ⌝ }
+{
+    if nodes.within(n) {
+        return 0;
+    }
+    7
 }

@@ -101,4 +101,4 @@ before-32 i h = omega (arith, h)
 -- a block begins within any record
 pub start-fits : (a : Params) (codeword i : ℕ) → ViewAccepted a codeword i → (i - 1) * a .b ≤ 32768
 start-fits a codeword i ok =
-    omega (arith, mul-le-mul (before-32 i (le-trans (ok .node .node-high) (ok .valid .shape .n-high))) (ok .valid .b-high))
+    omega (arith, mul-le-mul (before-32 i (le-trans (ok .node-high) (ok .valid .shape .n-high))) (ok .valid .b-high))

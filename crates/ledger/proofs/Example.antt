@@ -6,7 +6,7 @@ use mathlib.Core.List.{List, [], _∷_, _++_}
 use Prim.Native.Nat.{ℕ, suc, _<_}
 use native.Mathlib.Omega.{arith}
 use lib.Count.{ones}
-use lib.Dec.{leb, eqb}
+use lib.Dec.{leb}
 use Rattle.base.specs.Gate.{firstNo}
 use Rattle.base.specs.Seq.{cell, blocks, tabulate}
 use Rattle.field.specs.Field.{add, plus, mul, pow}
@@ -14,6 +14,7 @@ use Rattle.field.specs.FiniteSum.{sum}
 use Rattle.interpolation.specs.Polynomial.{evaluate}
 use Rattle.params.specs.Nodes.{has, size, within, disjoint, count, lowest}
 use Rattle.params.specs.Params.{slackParts, working}
+use Rattle.params.specs.declared.Params.{Params}
 use Rattle.gates.specs.Gates.{encodeGate, decodeGate, deltaGate, updateGate, repairGate, reconfigureGate, checkGate, viewGate, damageGate}
 use Rattle.serials.specs.Serials.{highest}
 use Rattle.code.specs.Code.{point, block}
@@ -54,7 +55,7 @@ abbrev difference : Event
 difference = on-held (delta (0x05 ∷ []) (0x00 ∷ 0x00 ∷ []) 0b011)
 
 abbrev open-blow : Event
-open-blow = damage 1 (0xff ∷ [])
+open-blow = damage 0b001 (0xff ∷ [])
 
 -- the change is sent again, to the nodes that were missed, and node 3, which is not of W: FF 0C 0C, serials 1 1 0. The two sends together have reached W.
 abbrev change-again : Event
@@ -66,7 +67,7 @@ first-rebuild = on-held (repair 0b110 0b001)
 
 -- node 3 is damaged and rebuilt from nodes 1 and 2, whose serial it takes: 00 0C 0C, serials 1 1 1
 abbrev other-blow : Event
-other-blow = damage 3 (0xff ∷ [])
+other-blow = damage 0b100 (0xff ∷ [])
 
 abbrev handing-rebuild : Event
 handing-rebuild = on-held (repair 0b011 0b100)
@@ -116,15 +117,15 @@ bad-check = call (record { params = small; codeword = other (0x06 ∷ 0x0a ∷ [
 abbrev bad-view : Event
 bad-view = on-held (view 0)
 
--- to node 4: 10
+-- to nodes 1 and 4: 7, and node 1 keeps its block too
 abbrev bad-blow : Event
-bad-blow = damage 4 (0xff ∷ [])
+bad-blow = damage 0b1001 (0xff ∷ 0xff ∷ [])
 
 -- ---- accepted, over damaged nodes
 
 -- node 1 is damaged: FF 0C 0C
 abbrev blow : Event
-blow = damage 1 (0xff ∷ [])
+blow = damage 0b001 (0xff ∷ [])
 
 -- change 07 through nodes 1 and 3 leaves 75 0C 86, serials 2 1 2, and node 1 damaged
 abbrev change-over : Event
@@ -136,7 +137,7 @@ rebuild = on-held (repair 0b110 0b001)
 
 -- node 1 is damaged again, and its block copied into the next record, AA 24 AE, whose message is 09. Nodes 2 and 3 are written and take 2, node 1 keeps its own: 2 2 2
 abbrev second-blow : Event
-second-blow = damage 1 (0xaa ∷ [])
+second-blow = damage 0b001 (0xaa ∷ [])
 
 abbrev rearrangement : Event
 rearrangement = on-held (reconfigure (record { k = 1; r = 2; w = 2; n = 3 }) (0x00 ∷ 0x00 ∷ 0x00 ∷ []) (9 ∷ 9 ∷ 9 ∷ []) (0x09 ∷ []) 0b110 0b110)
@@ -146,27 +147,49 @@ abbrev widening : Event
 widening =
     on-held (reconfigure (record { k = 2; r = 2; w = 3; n = 3 }) (0x00 ∷ 0x00 ∷ 0x00 ∷ []) (0 ∷ 0 ∷ 0 ∷ []) (0x01 ∷ 0x01 ∷ []) 0b110 0b111)
 
+-- ---- accepted, several nodes damaged together
+
+-- all nodes are written anew for (1,1,3,3), which reads one node: 01 02 03
+abbrev copies : Params
+copies = record { k = 1; r = 1; w = 3; n = 3; b = 1 }
+
+abbrev thinning : Event
+thinning =
+    call (record { params = record { k = 2; r = 2; w = 3; n = 3; b = 1 }; codeword = held; serials = held })
+    (reconfigure (record { k = 1; r = 1; w = 3; n = 3 }) (0x00 ∷ 0x00 ∷ 0x00 ∷ []) (0 ∷ 0 ∷ 0 ∷ []) (0x01 ∷ []) 0b011 0b111)
+
+-- nodes 1 and 3 are damaged together, AA 02 FF; then none
+abbrev box : Event
+box = damage 0b101 (0xaa ∷ 0xff ∷ [])
+
+abbrev empty-box : Event
+empty-box = damage 0b000 []
+
+-- both are rebuilt from node 2: 01 02 03
+abbrev box-rebuild : Event
+box-rebuild = call (record { params = copies; codeword = held; serials = held }) (repair 0b010 0b101)
+
 -- ---- accepted, with slack to spare
 
 -- all nodes are written anew for (1,2,3,3), which reads two nodes and uses one: 07 0E 09
 abbrev sparing : Event
 sparing =
-    call (record { params = record { k = 2; r = 2; w = 3; n = 3; b = 1 }; codeword = held; serials = held })
-    (reconfigure (record { k = 1; r = 2; w = 3; n = 3 }) (0x00 ∷ 0x00 ∷ 0x00 ∷ []) (0 ∷ 0 ∷ 0 ∷ []) (0x07 ∷ []) 0b011 0b111)
+    call (record { params = copies; codeword = held; serials = held })
+    (reconfigure (record { k = 1; r = 2; w = 3; n = 3 }) (0x00 ∷ 0x00 ∷ 0x00 ∷ []) (0 ∷ 0 ∷ 0 ∷ []) (0x07 ∷ []) 0b100 0b111)
 
 abbrev spare-check : Event
 spare-check = on-spare check
 
 -- node 3 is damaged, 07 0E FF, and rebuilt from nodes 1 and 2, of which 1 is used: 07 0E 09
 abbrev third-blow : Event
-third-blow = damage 3 (0xff ∷ [])
+third-blow = damage 0b100 (0xff ∷ [])
 
 abbrev spare-rebuild : Event
 spare-rebuild = on-spare (repair 0b011 0b100)
 
 -- node 2 is damaged: 07 FF 09; nodes 2 and 3 then read F1, which no ledger settles
 abbrev fourth-blow : Event
-fourth-blow = damage 2 (0xff ∷ [])
+fourth-blow = damage 0b010 (0xff ∷ [])
 
 abbrev spare-reading : Event
 spare-reading = on-spare (decode (0x00 ∷ []) 0b110)
@@ -203,11 +226,14 @@ refusals =
 abbrev second : List Event
 second = blow ∷ change-over ∷ rebuild ∷ second-blow ∷ rearrangement ∷ widening ∷ []
 
+abbrev boxes : List Event
+boxes = thinning ∷ box ∷ empty-box ∷ box-rebuild ∷ []
+
 abbrev third : List Event
 third = sparing ∷ spare-check ∷ third-blow ∷ spare-rebuild ∷ fourth-blow ∷ spare-reading ∷ spare-rearrangement ∷ spare-change ∷ copying ∷ []
 
 abbrev pub events : List Event
-events = breaking ++ (mending ++ (refusals ++ (second ++ third)))
+events = breaking ++ (mending ++ (refusals ++ (second ++ (boxes ++ third))))
 
 -- what is kept of the changes after each of them
 abbrev broken : Sends
@@ -249,7 +275,7 @@ abbrev open-held : Held
 open-held = begun small (0xff ∷ 0x0a ∷ 0x0c ∷ []) (1 ∷ 0 ∷ 0 ∷ [])
 
 abbrev open-machine : Machine
-open-machine = record { params = small; ledger = 0x02 ∷ []; damaged = λ i. false || eqb i 1; sends = broken }
+open-machine = record { params = small; ledger = 0x02 ∷ []; damaged = λ i. false || has 0b001 i; sends = broken }
 
 abbrev repaired-held : Held
 repaired-held = begun small (0x00 ∷ 0x0c ∷ 0x0c ∷ []) (1 ∷ 1 ∷ 1 ∷ [])
@@ -259,7 +285,7 @@ mended-machine =
     record {
       params = small;
       ledger = 0x02 ∷ [];
-      damaged = λ i. ((open-machine .damaged i && not (has 0b001 i)) || eqb i 3) && not (has 0b100 i);
+      damaged = λ i. ((open-machine .damaged i && not (has 0b001 i)) || has 0b100 i) && not (has 0b100 i);
       sends = mended;
     }
 
@@ -275,7 +301,22 @@ widened =
     record {
       params = wide .params;
       ledger = 0x01 ∷ 0x01 ∷ [];
-      damaged = rewrites 0b111 (rewrites 0b110 (λ i. ((mended-machine .damaged i || eqb i 1) && not (has 0b001 i)) || eqb i 1));
+      damaged = rewrites 0b111 (rewrites 0b110 (λ i. ((mended-machine .damaged i || has 0b001 i) && not (has 0b001 i)) || has 0b001 i));
+      sends = over;
+    }
+
+abbrev copied : Held
+copied = begun copies (0x01 ∷ 0x02 ∷ 0x03 ∷ []) (2 ∷ 2 ∷ 2 ∷ [])
+
+abbrev swapped : Held
+swapped = begun copies (0xaa ∷ 0x02 ∷ 0xff ∷ []) (2 ∷ 2 ∷ 2 ∷ [])
+
+abbrev thinned : Machine
+thinned =
+    record {
+      params = copies;
+      ledger = 0x01 ∷ [];
+      damaged = λ i. ((rewrites 0b111 (widened .damaged) i || has 0b101 i) || has 0b000 i) && not (has 0b101 i);
       sends = over;
     }
 
@@ -287,7 +328,7 @@ machine =
     record {
       params = left .params;
       ledger = 0x04 ∷ [];
-      damaged = rewrites 0b011 (rewrites 0b110 (λ i. (rewrites 0b111 (widened .damaged) i || eqb i 3) && not (has 0b100 i) || eqb i 2));
+      damaged = rewrites 0b011 (rewrites 0b110 (λ i. (rewrites 0b111 (thinned .damaged) i || has 0b100 i) && not (has 0b100 i) || has 0b010 i));
       sends = spared;
     }
 
@@ -325,7 +366,7 @@ breaking-run =
     (decoded 0 (0x02 ∷ []) (decode-by _ _ _ _ (0x02 ∷ []) tt _ refl)) (
     more {e = difference} (bytes (0x05 ∷ []) tt, bytes (0x00 ∷ 0x00 ∷ []) tt, omega arith) (λ _. refl)
     (differed 0 (0x06 ∷ 0x06 ∷ []) (delta-by _ _ _ _ (0x03 ∷ []) tt _ refl)) (
-    more {e = open-blow} (bytes (0xff ∷ []) tt) (λ _. tt) (damaged refl) done))))
+    more {e = open-blow} (omega arith, bytes (0xff ∷ []) tt) (λ _. tt) (damaged refl) done))))
 
 mending-run : Run open-held open-machine mending repaired-held mended-machine
 unfolding updateGate repairGate checkGate damageGate firstNo slackParts working
@@ -340,7 +381,7 @@ mending-run =
     more {e = first-rebuild} ((tt, tt), omega arith, omega arith)
     (λ _. (given-in-force _, record { undamaged = undamaged-by _ 0b110 (omega arith) tt; closed = mended-closed }))
     (repaired 0 (0x00 ∷ 0x0c ∷ 0x0c ∷ []) (1 ∷ 1 ∷ 0 ∷ []) (repair-by _ _ _ _ _ _ _ (0x02 ∷ []) (0x02 ∷ []) tt)) (
-    more {e = other-blow} (bytes (0xff ∷ []) tt) (λ _. tt) (damaged refl) (
+    more {e = other-blow} (omega arith, bytes (0xff ∷ []) tt) (λ _. tt) (damaged refl) (
     more {e = handing-rebuild} ((tt, tt), omega arith, omega arith)
     (λ _. (given-in-force _, record { undamaged = undamaged-by _ 0b011 (omega arith) tt; closed = mended-closed }))
     (repaired 0 (0x00 ∷ 0x0c ∷ 0x0c ∷ []) (1 ∷ 1 ∷ 1 ∷ []) (repair-by _ _ _ _ _ _ _ (0x02 ∷ []) (0x02 ∷ []) tt)) (
@@ -366,13 +407,13 @@ refused-run =
     (checked (Refused 6) refl (record { number = refl; served = λ z. absurd (never 5 z); refused = λ _. refl }, never 5)) (
     more {e = bad-view} (tt, tt) (λ z. absurd (never 9 z))
     (viewed {q = 10} [] refl (record { number = refl; served = λ z. absurd (never 9 z); refused = λ _. refl })) (
-    more {e = bad-blow} (bytes (0xff ∷ []) tt) (λ _. tt) (damaged refl) done))))))))))
+    more {e = bad-blow} (omega arith, bytes (0xff ∷ 0xff ∷ []) tt) (λ _. tt) (damaged refl) done))))))))))
 
 second-run : Run repaired-held mended-machine second wide widened
 unfolding updateGate repairGate reconfigureGate damageGate firstNo slackParts working
     has size ones within disjoint count lowest highest cell blocks tabulate block point evaluate sum add mul pow damagedWord plus
 second-run =
-    more {e = blow} (bytes (0xff ∷ []) tt) (λ _. tt) (damaged refl) (
+    more {e = blow} (omega arith, bytes (0xff ∷ []) tt) (λ _. tt) (damaged refl) (
     more {e = change-over} ((tt, tt), bytes (0x07 ∷ []) tt, omega arith, omega arith, omega arith)
     (λ _. (
       given-in-force _,
@@ -382,7 +423,7 @@ second-run =
     more {e = rebuild} ((tt, tt), omega arith, omega arith)
     (λ _. (given-in-force _, record { undamaged = undamaged-by _ 0b110 (omega arith) tt; closed = over-closed }))
     (repaired 0 (0x8a ∷ 0x0c ∷ 0x86 ∷ []) (2 ∷ 1 ∷ 2 ∷ []) (repair-by _ _ _ _ _ _ _ (0x05 ∷ []) (0x8f ∷ []) tt)) (
-    more {e = second-blow} (bytes (0xaa ∷ []) tt) (λ _. tt) (damaged refl) (
+    more {e = second-blow} (omega arith, bytes (0xaa ∷ []) tt) (λ _. tt) (damaged refl) (
     more {e = rearrangement} ((tt, tt), bytes (0x00 ∷ 0x00 ∷ 0x00 ∷ []) tt, words (9 ∷ 9 ∷ 9 ∷ []) tt, bytes (0x09 ∷ []) tt, omega arith, omega arith)
     (λ _. (given-in-force _, record { undamaged = undamaged-by _ 0b110 (omega arith) tt; closed = over-closed }))
     (reconfigured 0 (0xaa ∷ 0x24 ∷ 0xae ∷ []) (2 ∷ 2 ∷ 2 ∷ []) (reconfigure-by _ _ _ _ _ _ _ _ _ (0x05 ∷ []) (0x8f ∷ []) (0x83 ∷ []) tt _ _ refl refl)) (
@@ -390,19 +431,32 @@ second-run =
     (λ _. (given-in-force _, record { undamaged = undamaged-by _ 0b110 (omega arith) tt; closed = over-closed }))
     (reconfigured 0 (0x00 ∷ 0x06 ∷ 0x06 ∷ []) (2 ∷ 2 ∷ 2 ∷ []) (reconfigure-by _ _ _ _ _ _ _ _ _ (0x09 ∷ []) (0x83 ∷ []) [] tt _ _ refl refl)) done)))))
 
-third-run : Run wide widened third left machine
+boxes-run : Run wide widened boxes copied thinned
+unfolding repairGate reconfigureGate damageGate firstNo slackParts working
+    has size ones within disjoint count lowest highest cell blocks tabulate block point evaluate sum add mul pow damagedWord plus
+boxes-run =
+    more {e = thinning} ((tt, tt), bytes (0x00 ∷ 0x00 ∷ 0x00 ∷ []) tt, words (0 ∷ 0 ∷ 0 ∷ []) tt, bytes (0x01 ∷ []) tt, omega arith, omega arith)
+    (λ _. (given-in-force _, record { undamaged = undamaged-by _ 0b011 (omega arith) tt; closed = over-closed }))
+    (reconfigured 0 (0x01 ∷ 0x02 ∷ 0x03 ∷ []) (2 ∷ 2 ∷ 2 ∷ []) (reconfigure-by _ _ _ _ _ _ _ _ _ (0x01 ∷ 0x01 ∷ []) [] [] tt _ _ refl refl)) (
+    more {e = box} (omega arith, bytes (0xaa ∷ 0xff ∷ []) tt) (λ _. tt) (damaged refl) (
+    more {h = swapped} {h′ = swapped} {e = empty-box} (omega arith, bytes [] tt) (λ _. tt) (damaged refl) (
+    more {e = box-rebuild} ((tt, tt), omega arith, omega arith)
+    (λ _. (given-in-force _, record { undamaged = undamaged-by _ 0b010 (omega arith) tt; closed = over-closed }))
+    (repaired 0 (0x01 ∷ 0x02 ∷ 0x03 ∷ []) (2 ∷ 2 ∷ 2 ∷ []) (repair-by _ _ _ _ _ _ _ (0x01 ∷ []) [] tt)) done)))
+
+third-run : Run copied thinned third left machine
 unfolding decodeGate updateGate repairGate reconfigureGate checkGate damageGate firstNo slackParts working
     has size ones within disjoint count lowest highest cell blocks tabulate block point evaluate sum add mul pow damagedWord plus
 third-run =
     more {e = sparing} ((tt, tt), bytes (0x00 ∷ 0x00 ∷ 0x00 ∷ []) tt, words (0 ∷ 0 ∷ 0 ∷ []) tt, bytes (0x07 ∷ []) tt, omega arith, omega arith)
-    (λ _. (given-in-force _, record { undamaged = undamaged-by _ 0b011 (omega arith) tt; closed = over-closed }))
-    (reconfigured 0 (0x07 ∷ 0x0e ∷ 0x09 ∷ []) (2 ∷ 2 ∷ 2 ∷ []) (reconfigure-by _ _ _ _ _ _ _ _ _ (0x01 ∷ 0x01 ∷ []) [] [] tt _ _ refl refl)) (
+    (λ _. (given-in-force _, record { undamaged = undamaged-by _ 0b100 (omega arith) tt; closed = over-closed }))
+    (reconfigured 0 (0x07 ∷ 0x0e ∷ 0x09 ∷ []) (2 ∷ 2 ∷ 2 ∷ []) (reconfigure-by _ _ _ _ _ _ _ _ _ (0x01 ∷ []) [] [] tt _ _ refl refl)) (
     more {e = spare-check} (tt, tt) (λ _. record-in-force _) (checked Agrees refl (check-by _ _ (0x07 ∷ []) [] tt)) (
-    more {e = third-blow} (bytes (0xff ∷ []) tt) (λ _. tt) (damaged refl) (
+    more {e = third-blow} (omega arith, bytes (0xff ∷ []) tt) (λ _. tt) (damaged refl) (
     more {e = spare-rebuild} ((tt, tt), omega arith, omega arith)
     (λ _. (given-in-force _, record { undamaged = undamaged-by _ 0b011 (omega arith) tt; closed = over-closed }))
     (repaired 0 (0x07 ∷ 0x0e ∷ 0x09 ∷ []) (2 ∷ 2 ∷ 2 ∷ []) (repair-by _ _ _ _ _ _ _ (0x07 ∷ []) [] tt)) (
-    more {e = fourth-blow} (bytes (0xff ∷ []) tt) (λ _. tt) (damaged refl) (
+    more {e = fourth-blow} (omega arith, bytes (0xff ∷ []) tt) (λ _. tt) (damaged refl) (
     more {e = spare-reading} ((tt, tt), bytes (0x00 ∷ []) tt, omega arith) (λ _. record-in-force _)
     (decoded 0 (0xf1 ∷ []) (decode-by _ _ _ _ [] tt _ refl)) (
     more {e = spare-rearrangement} ((tt, tt), bytes (0x00 ∷ 0x00 ∷ 0x00 ∷ []) tt, words (0 ∷ 0 ∷ 0 ∷ []) tt, bytes (0x05 ∷ []) tt, omega arith, omega arith)
@@ -437,7 +491,7 @@ example =
       serials = 0 ∷ 0 ∷ 0 ∷ [];
       typed = (bytes (0x07 ∷ []) tt, bytes (0x01 ∷ []) tt, bytes (0xff ∷ 0xff ∷ 0xff ∷ []) tt, words (7 ∷ 7 ∷ 7 ∷ []) tt);
       opening = encode-by _ _ _ _ _ tt _ _ refl refl;
-      run = followed breaking-run (followed mending-run (followed refused-run (followed second-run third-run)));
+      run = followed breaking-run (followed mending-run (followed refused-run (followed second-run (followed boxes-run third-run))));
     }
 
 -- .. after which the nodes read 04, by what decode means, ..

@@ -2,15 +2,13 @@
 -- send does not alter what this would leave is the law of sends (code/proofs/Sends.antt). Between closed changes it leaves what there is. Assumes nothing.
 use mathlib.Core.Path.{_≡_, refl, sym, ap, ap₂, _∙_, subst}
 use mathlib.Core.Logic.{⊎-elim}
-use mathlib.Core.Bool.{Bool, true, false, _||_, true≢false, cond}
+use mathlib.Core.Bool.{Bool, true, false, _||_, true≢false}
 use mathlib.Core.List.{List}
 use Prim.Native.Nat.{ℕ, suc, _*_, _≤_, _<_}
 use native.Mathlib.Omega.{arith}
-use lib.Dec.{eqb}
 use lib.ListN.{length, getD}
 use Rattle.base.specs.Seq.{cell}
 use Rattle.base.proofs.Cases.{lt-or}
-use Rattle.base.proofs.Seq.{cell-blocks}
 use Rattle.field.specs.Field.{add, plus}
 use Rattle.params.specs.Nodes.{has, size, within}
 use Rattle.gates.specs.Valid.{Valid}
@@ -23,7 +21,7 @@ use Rattle.code.proofs.Pairs.{spread-unique}
 use Rattle.code.proofs.Determined.{updated-exists, updated-unique}
 use Rattle.code.proofs.Sends.{send-over, send-whole, none-takes, send-still}
 use Rattle.ledger.specs.Ledger.{Sends, sending, Closed, damagedWord}
-use Rattle.ledger.proofs.Sound.{Sound, update-sound, damage-sound, sound-cells}
+use Rattle.ledger.proofs.Sound.{Sound, damaged-other, update-sound, damage-sound, sound-cells}
 use Rattle.ledger.proofs.Stamps.{Stamps, sent-here, to-here, change-here, again-sent, again-to, again-change, reached-still}
 
 -- what sending a change to all of its W would leave: a sound record
@@ -109,15 +107,12 @@ module _ (a : Params) (ok : Valid a) where
         }
 
     -- damage, open or not: what a send to all of W would leave is as before at every other node
-    finish-damage : (d : List ℕ) (to serial node : ℕ) (bytes : List ℕ) → Finish a codeword serials ledger damaged d to serial
-        → Finish a (damagedWord a codeword node bytes) serials ledger (λ j. damaged j || eqb j node) d to serial
-    unfolding damagedWord
-    finish-damage d to serial node bytes f =
-        let word = damagedWord a codeword node bytes in
+    finish-damage : (d : List ℕ) (to serial nodes : ℕ) (bytes : List ℕ) → Finish a codeword serials ledger damaged d to serial
+        → Finish a (damagedWord a codeword nodes bytes) serials ledger (λ j. damaged j || has nodes j) d to serial
+    finish-damage d to serial nodes bytes f =
+        let word = damagedWord a codeword nodes bytes in
         let e = finish-exists d to serial word serials (f .inside) (f .many) in
         let same = spread-unique a to ok (f .inside) (f .many) d (e .2 .0 .slack) (f .send .0 .slack) (e .2 .0 .vanishes) (f .send .0 .vanishes) in
-        let other : (j p : ℕ) → j < a .n → p < a .b → eqb (suc j) node ≡ false → cell (a .b) word j p ≡ cell (a .b) codeword j p =
-        λ j p hj hp t. cell-blocks (a .b) (a .n) _ j p hj hp ∙ ap (λ (b : Bool). cond b (getD bytes p 0) (cell (a .b) codeword j p)) t in
         record {
           inside = f .inside;
           many = f .many;
@@ -128,28 +123,29 @@ module _ (a : Params) (ok : Valid a) where
               record {
                 slack = f .sound .slack;
                 pair = f .sound .pair;
-                holds = λ j p hj q hp. go j p hj hp (e .0) (e .2 .0) same (other j p hj hp) (damaged (suc j)) refl (eqb (suc j) node) refl q;
+                holds = λ j p hj q hp. go j p hj hp (e .0) (e .2 .0) same (damaged (suc j)) refl (has nodes (suc j)) refl q;
               };
         }
       where
-        go : (j p : ℕ) → j < a .n → p < a .b → (full : List ℕ) (u : Updated a (damagedWord a codeword node bytes) d to (takes to to serials serial) full)
-            → u .slack ≡ f .send .0 .slack
-            → (eqb (suc j) node ≡ false → cell (a .b) (damagedWord a codeword node bytes) j p ≡ cell (a .b) codeword j p)
-            → (b : Bool) → damaged (suc j) ≡ b → (t : Bool) → eqb (suc j) node ≡ t → (b || t) ≡ false
+        go : (j p : ℕ) → j < a .n → p < a .b → (full : List ℕ) (u : Updated a (damagedWord a codeword nodes bytes) d to (takes to to serials serial) full)
+            → u .slack ≡ f .send .0 .slack → (b : Bool) → damaged (suc j) ≡ b → (t : Bool) → has nodes (suc j) ≡ t → (b || t) ≡ false
             → cell (a .b) full j p ≡ block a ledger (f .sound .slack) (suc j) p
-        go j p hj hp full u same other true eb t et q = absurd (true≢false q)
-        go j p hj hp full u same other false eb true et q = absurd (true≢false q)
-        go j p hj hp full u same other false eb false et q = by (takes to to serials serial (suc j)) refl ∙ f .sound .holds j p hj eb hp
+        go j p hj hp full u same true eb t et q = absurd (true≢false q)
+        go j p hj hp full u same false eb true et q = absurd (true≢false q)
+        go j p hj hp full u same false eb false et q = by (takes to to serials serial (suc j)) refl ∙ f .sound .holds j p hj eb hp
           where
+            other : cell (a .b) (damagedWord a codeword nodes bytes) j p ≡ cell (a .b) codeword j p
+            other = damaged-other a codeword bytes nodes j p hj hp et
+
             by : (t : Bool) → takes to to serials serial (suc j) ≡ t → cell (a .b) full j p ≡ cell (a .b) (f .full) j p
             by true e =
-                u .added j p hj e hp ∙ ap₂ add (other et) (ap (λ (v : List ℕ). block a d v (suc j) p) same) ∙ sym (f .send .0 .added j p hj e hp)
-            by false e = u .kept j p hj e hp ∙ other et ∙ sym (f .send .0 .kept j p hj e hp)
+                u .added j p hj e hp ∙ ap₂ add other (ap (λ (v : List ℕ). block a d v (suc j) p) same) ∙ sym (f .send .0 .added j p hj e hp)
+            by false e = u .kept j p hj e hp ∙ other ∙ sym (f .send .0 .kept j p hj e hp)
 
-    pub finished-damage : (node : ℕ) (bytes : List ℕ) → Finished a codeword serials ledger damaged k top
-        → Finished a (damagedWord a codeword node bytes) serials ledger (λ j. damaged j || eqb j node) k top
-    finished-damage node bytes (whole closed s) = whole closed (damage-sound a codeword ledger damaged s node bytes)
-    finished-damage node bytes (part sent f) = part sent (finish-damage (k .change top) (k .to top) top node bytes f)
+    pub finished-damage : (nodes : ℕ) (bytes : List ℕ) → Finished a codeword serials ledger damaged k top
+        → Finished a (damagedWord a codeword nodes bytes) serials ledger (λ j. damaged j || has nodes j) k top
+    finished-damage nodes bytes (whole closed s) = whole closed (damage-sound a codeword ledger damaged s nodes bytes)
+    finished-damage nodes bytes (part sent f) = part sent (finish-damage (k .change top) (k .to top) top nodes bytes f)
 
     -- ---- sends, and what is then kept of them
 

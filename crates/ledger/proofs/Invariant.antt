@@ -171,15 +171,15 @@ module _ (h : Held) (m : Machine) (i : Agrees h m) where
             (from-reads (h .params) from (g .valid) (g .from-within) (g .from-size)) (u .undamaged) t to x new (s .0));
       }
 
-  damage-keeps : (node : ℕ) (bytes : List ℕ) → Keeps h m (damage node bytes)
-  damage-keeps node bytes h′ (damaged e) =
+  damage-keeps : (nodes : ℕ) (bytes : List ℕ) → Keeps h m (damage nodes bytes)
+  damage-keeps nodes bytes h′ (damaged e) =
       record {
         same = i .same;
         valid = i .valid;
         top = i .top;
         stamps = i .stamps;
         finished =
-            finished-damage (h .params) (i .valid) (h .codeword) (h .serials) (m .ledger) (m .damaged) (m .sends) (i .top) (i .stamps) node bytes (i .finished);
+            finished-damage (h .params) (i .valid) (h .codeword) (h .serials) (m .ledger) (m .damaged) (m .sends) (i .top) (i .stamps) nodes bytes (i .finished);
       }
 
   given : (g : Given) (c : Call) → InForce h g → Keeps h m (call (inForce h) c) → Keeps h m (call g c)
@@ -196,7 +196,7 @@ module _ (h : Held) (m : Machine) (i : Agrees h m) where
   accepted-keeps (call g (delta d buffer to)) ty al h′ (differed _ out post) = i
   accepted-keeps (call g check) ty al h′ (checked verdict e post) = i
   accepted-keeps (call g (view node)) ty al h′ (viewed part e post) = i
-  accepted-keeps (damage node bytes) ty al h′ st = damage-keeps node bytes h′ st
+  accepted-keeps (damage nodes bytes) ty al h′ st = damage-keeps nodes bytes h′ st
 
 -- ---- refused events
 
@@ -212,9 +212,9 @@ pub moved-same : (answer : ℕ) (h : Held) (a : Params) (t : Shape) (new serials
 moved-same zero h a t new serials ne = absurd (ne refl)
 moved-same (suc q) h a t new serials ne = refl
 
-pub damaged-same : (q : ℕ) (h : Held) (node : ℕ) (bytes : List ℕ) → (q ≡ 0 → ⊥) → damagedHeld q h node bytes ≡ h
-damaged-same zero h node bytes ne = absurd (ne refl)
-damaged-same (suc q) h node bytes ne = refl
+pub damaged-same : (q : ℕ) (h : Held) (nodes : ℕ) (bytes : List ℕ) → (q ≡ 0 → ⊥) → damagedHeld q h nodes bytes ≡ h
+damaged-same zero h nodes bytes ne = absurd (ne refl)
+damaged-same (suc q) h nodes bytes ne = refl
 
 -- A refused event alters nothing.
 pub refused-same : (h h′ : Held) (e : Event) (q : ℕ) → (q ≡ 0 → ⊥) → Step h e q h′ → h′ ≡ h
@@ -226,7 +226,7 @@ refused-same h h′ e _ ne (decoded answer out post) = refl
 refused-same h h′ e _ ne (differed answer out post) = refl
 refused-same h h′ e _ ne (checked verdict z post) = refl
 refused-same h h′ e _ ne (viewed part z post) = refl
-refused-same h h′ e q ne (damaged {node = node} {bytes = bytes} z) = damaged-same q h node bytes ne
+refused-same h h′ e q ne (damaged {nodes = nodes} {bytes = bytes} z) = damaged-same q h nodes bytes ne
 
 -- ---- lists
 

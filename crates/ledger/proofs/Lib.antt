@@ -8,3 +8,4 @@ pub mod Whole
 pub mod Computed
 pub mod Figures
 pub mod Example
+pub mod OneNode

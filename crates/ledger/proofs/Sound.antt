@@ -4,8 +4,7 @@ use mathlib.Core.Path.{_≡_, refl, sym, ap₂, _∙_}
 use mathlib.Core.Bool.{Bool, true, false, not, _&&_, _||_, true≢false, cond}
 use mathlib.Core.List.{List}
 use Prim.Native.Nat.{ℕ, suc, _<_}
-use lib.Dec.{leb, ltb, eqb}
-use lib.ListN.{getD}
+use lib.Dec.{leb, ltb}
 use borrow.Author.Tests.{ltb-false, le-leb}
 use Rattle.base.specs.Seq.{cell}
 use Rattle.base.proofs.Seq.{cell-blocks}
@@ -35,6 +34,16 @@ pub sound-cells : (a : Params) (ledger : List ℕ) (damaged : ℕ → Bool) (cod
 sound-cells a ledger damaged codeword codeword′ same s =
     record { slack = s .slack; pair = s .pair; holds = λ j p hj d hp. same j p hj hp ∙ s .holds j p hj d hp }
 
+-- Damage keeps the blocks of the nodes outside its set.
+pub damaged-other : (a : Params) (codeword bytes : List ℕ) (nodes j p : ℕ) → j < a .n → p < a .b → has nodes (suc j) ≡ false
+    → cell (a .b) (damagedWord a codeword nodes bytes) j p ≡ cell (a .b) codeword j p
+unfolding damagedWord
+damaged-other a codeword bytes nodes j p hj hp e = cell-blocks (a .b) (a .n) _ j p hj hp ∙ other (has nodes (suc j)) _ _ e
+  where
+    other : (t : Bool) (x y : ℕ) → t ≡ false → cond t x y ≡ y
+    other true x y e = absurd (true≢false e)
+    other false x y e = refl
+
 -- After a set-up every block is the pair's.
 pub encode-sound : (a : Params) (x v codeword : List ℕ) → Pair a x v → Encoded a x v codeword → Sound a codeword x (λ i. false)
 encode-sound a x v codeword pair e = record { slack = v; pair = pair; holds = λ j p hj d hp. e .holds j p hj hp }
@@ -61,21 +70,19 @@ module _ (a : Params) (codeword ledger : List ℕ) (damaged : ℕ → Bool) (i :
           u .kept j p hj s hp ∙ sym (add-zero-right (cell (a .b) codeword j p))
           ∙ ap₂ add (i .holds j p hj e hp) (sym (u .vanishes .zero j p hj s hp))
 
-  pub damage-sound : (node : ℕ) (bytes : List ℕ) → Sound a (damagedWord a codeword node bytes) ledger (λ j. damaged j || eqb j node)
-  unfolding damagedWord
-  damage-sound node bytes =
+  pub damage-sound : (nodes : ℕ) (bytes : List ℕ) → Sound a (damagedWord a codeword nodes bytes) ledger (λ j. damaged j || has nodes j)
+  damage-sound nodes bytes =
       record {
         slack = i .slack;
         pair = i .pair;
-        holds = λ j p hj e hp. cell-blocks (a .b) (a .n) _ j p hj hp ∙ go j p hj hp (eqb (suc j) node) (damaged (suc j)) refl e;
+        holds = λ j p hj e hp. go j p hj hp (damaged (suc j)) refl (has nodes (suc j)) refl e;
       }
     where
-      go : (j p : ℕ) → j < a .n → p < a .b → (b c : Bool) → damaged (suc j) ≡ c → (c || b) ≡ false
-          → cond b (getD bytes p 0) (cell (a .b) codeword j p) ≡ block a ledger (i .slack) (suc j) p
-      go j p hj hp true true dc e = absurd (true≢false e)
-      go j p hj hp true false dc e = absurd (true≢false e)
-      go j p hj hp false true dc e = absurd (true≢false e)
-      go j p hj hp false false dc e = i .holds j p hj dc hp
+      go : (j p : ℕ) → j < a .n → p < a .b → (b : Bool) → damaged (suc j) ≡ b → (c : Bool) → has nodes (suc j) ≡ c → (b || c) ≡ false
+          → cell (a .b) (damagedWord a codeword nodes bytes) j p ≡ block a ledger (i .slack) (suc j) p
+      go j p hj hp true db c sc e = absurd (true≢false e)
+      go j p hj hp false db true sc e = absurd (true≢false e)
+      go j p hj hp false db false sc e = damaged-other a codeword bytes nodes j p hj hp sc ∙ i .holds j p hj db hp
 
   module _ (valid : Valid a) (from : ℕ) (full : Reads a (used a from)) (u : (j : ℕ) → has from j ≡ true → damaged j ≡ false) where
     -- R's pair, R undamaged, is the ledger's.

@@ -184,19 +184,19 @@ chosen-byte : (b : Bool) (x y : ℕ) → IsByte x → IsByte y → IsByte (cond 
 chosen-byte true x y hx hy = hx
 chosen-byte false x y hx hy = hy
 
-damaged-whole : (q : ℕ) (h : Held) (node : ℕ) (bytes : List ℕ) → Whole h → Bytes bytes → Whole (damagedHeld q h node bytes)
+damaged-whole : (q : ℕ) (h : Held) (nodes : ℕ) (bytes : List ℕ) → Whole h → Bytes bytes → Whole (damagedHeld q h nodes bytes)
 unfolding damagedWord
-damaged-whole zero h node bytes w t =
+damaged-whole zero h nodes bytes w t =
     record {
       valid = w .valid;
       length-is = length-blocks (h .params .b) (h .params .n) _;
       bytes =
           bytes-blocks (h .params .b) (h .params .n) _
-          (λ j p. chosen-byte (eqb (suc j) node) _ _ (t p) (cell-byte (h .params .b) (h .codeword) j p (w .bytes)));
+          (λ j p. chosen-byte (has nodes (suc j)) _ _ (cell-byte (h .params .b) bytes _ p t) (cell-byte (h .params .b) (h .codeword) j p (w .bytes)));
       serials-length = w .serials-length;
       words = w .words;
     }
-damaged-whole (suc q) h node bytes w t = w
+damaged-whole (suc q) h nodes bytes w t = w
 
 pub step-whole : (h : Held) {h′ : Held} {q : ℕ} (e : Event) → Whole h → Typed e → Step h e q h′ → Whole h′
 step-whole h (call g (encode x v)) w t (encoded answer new serials post) =
@@ -212,7 +212,7 @@ step-whole h (call g (decode buffer from)) w t (decoded answer out post) = w
 step-whole h (call g (delta d buffer to)) w t (differed answer out post) = w
 step-whole h (call g check) w t (checked verdict e post) = w
 step-whole h (call g (view node)) w t (viewed part e post) = w
-step-whole h (damage node bytes) w t (damaged {q = q} e) = damaged-whole q h node bytes w t
+step-whole h (damage nodes bytes) w t (damaged {q = q} e) = damaged-whole q h nodes bytes w (t .1)
 
 run-whole : {h h′ : Held} {m m′ : Machine} {events : List Event} → Whole h → Run h m events h′ m′ → Whole h′
 run-whole w done = w
@@ -251,7 +251,7 @@ step-exists h (call g (decode buffer from)) w t =
 step-exists h (call g (delta d buffer to)) w t = let m = delta-met (g .params) d to buffer in (_, h, differed (m .0) (m .1) (m .2))
 step-exists h (call g check) w t = let m = check-met (g .params) (lent h g) (lent-bytes h g w t) in (_, h, checked (m .0) refl (m .1))
 step-exists h (call g (view node)) w t = let m = view-met (g .params) (lent h g) node in (_, h, viewed (m .0) refl (m .1))
-step-exists h (damage node bytes) w t = (_, _, damaged refl)
+step-exists h (damage nodes bytes) w t = (_, _, damaged refl)
 
 pub step-unique : (h : Held) {h′ h″ : Held} {q q′ : ℕ} (e : Event) → Step h e q h′ → Step h e q′ h″ → (q ≡ q′) × (h′ ≡ h″)
 step-unique h (call g (encode x v)) (encoded answer new serials post) (encoded answer′ new′ serials′ post′) =
@@ -272,7 +272,7 @@ step-unique h (call g (delta d buffer to)) (differed answer out post) (differed 
 step-unique h (call g check) (checked verdict e post) (checked verdict′ e′ post′) =
     (e ∙ post .0 .number ∙ sym (e′ ∙ post′ .0 .number), refl)
 step-unique h (call g (view node)) (viewed part e post) (viewed part′ e′ post′) = (e ∙ sym e′, refl)
-step-unique h (damage node bytes) (damaged e) (damaged e′) = (e ∙ sym e′, ap (λ (q : ℕ). damagedHeld q h node bytes) (e ∙ sym e′))
+step-unique h (damage nodes bytes) (damaged e) (damaged e′) = (e ∙ sym e′, ap (λ (q : ℕ). damagedHeld q h nodes bytes) (e ∙ sym e′))
 
 -- After every list, between closed changes, each accepted set of undamaged nodes has a reading.
 pub reading-exists : {events : List Event} {h : Held} {m : Machine} → History events h m → (from : ℕ) (buffer : List ℕ)

@@ -1,14 +1,14 @@
--- "The ledger machine" (document 01; document 02, 2026-03): lists of calls and damage, what they do to the record and the serials beside it, and what the machine
+-- "The ledger machine" (document 01; document 02, 2026-03, 2026-04): lists of calls and damage, what they do to the record and the serials beside it, and what the machine
 -- keeps of them. The calls' own definitions and gates are those that the code's contracts cite. Assumes nothing.
 use mathlib.Core.Path.{_≡_}
 use mathlib.Core.Bool.{Bool, true, false, not, _&&_, _||_, cond}
 use mathlib.Core.List.{List, [], _∷_}
 use Prim.Native.Nat.{ℕ, zero, suc, _<_, _^_}
 use lib.Dec.{leb, eqb}
-use lib.ListN.{length, getD}
+use lib.ListN.{length}
 use Rattle.base.specs.Seq.{cell, blocks}
 use Rattle.field.specs.Field.{Bytes, plus}
-use Rattle.params.specs.Nodes.{has}
+use Rattle.params.specs.Nodes.{has, count}
 use Rattle.params.specs.Params.{reshaped}
 use Rattle.gates.specs.Gates.{viewGate, damageGate}
 use Rattle.params.specs.declared.Params.{Params}
@@ -110,7 +110,7 @@ pub data Call : Type 0 where
 -- "All else that a call is given is written in the list as bytes and numbers": each event has arguments of its own, of any size.
 pub data Event : Type 0 where
   call : Given → Call → Event
-  damage : (node : ℕ) → (bytes : List ℕ) → Event
+  damage : (nodes : ℕ) → (bytes : List ℕ) → Event
 
 -- what is in force: the parameters, the record and the serials that the list so far has left
 abbrev pub inForce : Held → Given
@@ -154,18 +154,21 @@ abbrev pub moved : ℕ → Held → Params → Shape → List ℕ → List ℕ �
 moved zero h a t new serials = heldUnder (reshaped a t) (withRecord new serials h)
 moved (suc q) h a t new serials = h
 
--- "Damage to trap i replaces its block by given bytes": byte p of the block becomes byte p given (bytes that are not given are 00).
+-- "Damage to trap i replaces its block by given bytes", and several are damaged together, with "B bytes for each .., in rising order" (document 02, 2026-04): the
+-- blocks of the set's nodes become the given ones, each node's that which its rank tells (bytes that are not given are 00). A set of one node is document 01's
+-- damage (proofs/OneNode.antt).
 unfoldable pub damagedWord : Params → List ℕ → ℕ → List ℕ → List ℕ
-damagedWord a codeword i bytes = blocks (a .b) (a .n) (λ j p. cond (eqb (suc j) i) (getD bytes p 0) (cell (a .b) codeword j p))
+damagedWord a codeword s bytes =
+    blocks (a .b) (a .n) (λ j p. cond (has s (suc j)) (cell (a .b) bytes (count (has s) j) p) (cell (a .b) codeword j p))
 
--- "copied traps and damage keep theirs": the serials stay. A damage event outside 1..n alters nothing.
+-- "copied traps and damage keep theirs": the serials stay. "All are replaced, or none if a trap is above n": refused damage alters nothing.
 abbrev pub damagedHeld : ℕ → Held → ℕ → List ℕ → Held
-damagedHeld zero h i bytes = withRecord (damagedWord (h .params) (h .codeword) i bytes) (h .serials) h
-damagedHeld (suc q) h i bytes = h
+damagedHeld zero h s bytes = withRecord (damagedWord (h .params) (h .codeword) s bytes) (h .serials) h
+damagedHeld (suc q) h s bytes = h
 
 -- One step: the call's post-condition, the very one of its contract, on what it is lent; its answer; and what is then held. An encode within a list (which is
 -- refused) writes to the record lent like an update; reading, difference, check and view have buffers and answers of their own. A check answers its verdict's
--- number, a view's number is that of its second call, and "a damage event puts only 10".
+-- number, a view's number is that of its second call, and a damage event puts question 7 alone.
 pub data Step (h : Held) : Event → ℕ → Held → Type 0 where
   encoded : {g : Given} {x v : List ℕ} (answer : ℕ) (new serials : List ℕ)
       → EncodePost (g .params) x v (lent h g) (serialsLent h g) answer new serials → Step h (call g (encode x v)) answer (wrote h g new serials)
@@ -185,7 +188,7 @@ pub data Step (h : Held) : Event → ℕ → Held → Type 0 where
   checked : {g : Given} {q : ℕ} (verdict : Verdict) → q ≡ number verdict → CheckPost (g .params) (lent h g) verdict → Step h (call g check) q h
   viewed : {g : Given} {node q : ℕ} (part : List ℕ) → q ≡ viewGate (g .params) (length (lent h g)) node → ViewPost (g .params) (lent h g) node part
       → Step h (call g (view node)) q h
-  damaged : {node q : ℕ} {bytes : List ℕ} → q ≡ damageGate (h .params .n) node → Step h (damage node bytes) q (damagedHeld q h node bytes)
+  damaged : {nodes q : ℕ} {bytes : List ℕ} → q ≡ damageGate (h .params .n) nodes → Step h (damage nodes bytes) q (damagedHeld q h nodes bytes)
 
 -- ---- what an event does to the machine
 
@@ -207,8 +210,8 @@ effect m (call g (decode buffer from)) = m
 effect m (call g (delta d buffer to)) = m
 effect m (call g check) = m
 effect m (call g (view node)) = m
--- "Damage to trap i .. puts i in the set."
-effect m (damage node bytes) = withDamaged (λ i. m .damaged i || eqb i node) m
+-- "Damage to trap i .. puts i in the set": each of its nodes.
+effect m (damage nodes bytes) = withDamaged (λ i. m .damaged i || has nodes i) m
 
 -- "Accepted means answered with 0." "A refused call alters nothing."
 abbrev pub stepped : ℕ → Machine → Event → Machine
@@ -253,7 +256,7 @@ Allowed h m (call g (decode buffer from)) = RecordInForce h g
 Allowed h m (call g (delta d buffer to)) = g .params ≡ h .params
 Allowed h m (call g check) = RecordInForce h g
 Allowed h m (call g (view node)) = RecordInForce h g
-Allowed h m (damage node bytes) = Unit {0}
+Allowed h m (damage nodes bytes) = Unit {0}
 
 -- What the types of the arguments say: bytes are bytes, serials and sets have 32 bits.
 abbrev pub LentAs : (List ℕ → Type 0) → Lent → Type 0
@@ -273,7 +276,7 @@ Typed (call g (decode buffer from)) = GivenTyped g × Bytes buffer × (from < 2 
 Typed (call g (delta d buffer to)) = Bytes d × Bytes buffer × (to < 2 ^ 32)
 Typed (call g check) = GivenTyped g
 Typed (call g (view node)) = GivenTyped g
-Typed (damage node bytes) = Bytes bytes
+Typed (damage nodes bytes) = (nodes < 2 ^ 32) × Bytes bytes
 
 -- A list from one state of system and machine to another. Each event has its answer; one that is answered with 0 is accepted.
 pub data Run : Held → Machine → List Event → Held → Machine → Type 0 where

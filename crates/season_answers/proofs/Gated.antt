@@ -75,7 +75,7 @@ module _ (a : Params) (serial : ℕ) (e : Event) where
   unfolding answerOf
   repair-answer x g f hx h k = k ∙ repair-same x (f .from .0) (f .lost .0) hx ∙ sym (ap (answerOf a serial) h)
 
-  pub damage-answer : (g : ℕ) (f : DamageFields) → e ≡ Damage f → g ≡ damageGate (a .n) (f .node .0) → g ≡ answerOf a serial e
+  pub damage-answer : (g : ℕ) (f : DamageFields) → e ≡ Damage f → g ≡ damageGate (a .n) (f .nodes .0) → g ≡ answerOf a serial e
   unfolding answerOf
   damage-answer g f h k = k ∙ sym (ap (answerOf a serial) h)
 

@@ -10,7 +10,7 @@ use Rattle.season_file.specs.declared.Event.the-variants.{Update, Repair, Damag
 unfoldable pub answerOf : Params → (serial : ℕ) → Event → ℕ
 answerOf a serial (Update f) = updateGate a (a .n * a .b) (a .n) (a .k * a .b) (f .to .0) serial
 answerOf a serial (Repair f) = repairGate a (a .n * a .b) (a .n) (f .from .0) (f .lost .0)
-answerOf a serial (Damage f) = damageGate (a .n) (f .node .0)
+answerOf a serial (Damage f) = damageGate (a .n) (f .nodes .0)
 answerOf a serial (Decode f) = decodeGate a (a .n * a .b) (a .k * a .b) (f .from .0)
 answerOf a serial (Reconfigure f) =
     reconfigureGate a (f .shape) (a .n * a .b) (a .n) (f .shape .n * a .b) (f .shape .n) (f .shape .k * a .b) (f .from .0) (f .to .0)

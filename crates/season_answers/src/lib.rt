@@ -39,7 +39,7 @@ pub fn answer(a: Params, serial: u32, e: Event) -> u32
     match e {
         Event::Update(f) => update_gate(a, codeword, a.n, message, f.to, serial),
         Event::Repair(f) => repair_gate(a, codeword, a.n, f.from, f.lost),
-        Event::Damage(f) => damage_gate(a.n, f.node),
+        Event::Damage(f) => damage_gate(a.n, f.nodes),
         Event::Decode(f) => decode_gate(a, codeword, message, f.from),
         Event::Reconfigure(f) => reconfigure_answer(a, codeword, f),
     }

@@ -24,7 +24,7 @@ abbrev pub gate : Held → List ℕ → (serial : ℕ) → Event → ℕ
 gate h input serial (Update f) =
     updateGate (h .params) (length (h .codeword)) (length (h .serials)) (length (bytesOf input (f .change))) (f .to .0) serial
 gate h input serial (Repair f) = repairGate (h .params) (length (h .codeword)) (length (h .serials)) (f .from .0) (f .lost .0)
-gate h input serial (Damage f) = damageGate (h .params .n) (f .node .0)
+gate h input serial (Damage f) = damageGate (h .params .n) (f .nodes .0)
 gate h input serial (Decode f) =
     decodeGate (h .params) (length (h .codeword)) (length (replicate {A = ℕ} (h .params .k * h .params .b) 0)) (f .from .0)
 gate h input serial (Reconfigure f) =

@@ -1,30 +1,24 @@
 -- What the calls leave of a buffer whose front they were lent, as the effect of a file's event. Assumes nothing.
 use mathlib.Core.Path.{_≡_, refl, sym, ap, _∙_, subst, subst₂}
-use mathlib.Core.Bool.{Bool, cond}
+use mathlib.Core.Bool.{Bool, true, false, cond}
 use mathlib.Core.List.{List, [], _++_}
-use mathlib.Core.Logic.{⊎-elim}
-use Prim.Native.Nat.{ℕ, zero, suc, _+_, _-_, _*_, _≤_, _<_}
+use Prim.Native.Nat.{ℕ, zero, suc, _+_, _-_, _*_, _^_, _≤_, _<_}
 use native.Mathlib.Omega.{arith}
-use lib.Dec.{eqb}
-use lib.ListN.{length, getD, take, drop, length-replicate}
-use lib.Seq.{length-take-le, drop-drop, ext-getD}
-use borrow.Author.Tests.{eq-eqb, ne-eqb}
-use borrow.Rule.Slice.PartMut.{drop-put}
+use lib.ListN.{length, take, drop, length-replicate}
+use lib.Seq.{length-take-le, ext-getD}
 use Rattle.base.specs.Seq.{cell}
-use Rattle.base.proofs.Cases.{eq-or}
-use Rattle.base.specs.Parts.{partOf, putBlock}
-use Rattle.base.proofs.Parts.{length-partOf, putBlock-here, putBlock-other, putBlock-length, row-ends}
-use Rattle.base.proofs.Seq.{cells-ext, cell-blocks, length-blocks, cell-take}
+use Rattle.base.proofs.Parts.{row-ends}
+use Rattle.base.proofs.Seq.{cells-ext, cell-blocks, length-blocks}
 use Rattle.gates.specs.Valid.{Valid}
 use Rattle.params.specs.declared.Params.{Params}
-use Rattle.params.specs.Nodes.{has}
+use Rattle.params.specs.Nodes.{has, size, count}
 use Rattle.params.specs.Params.{reshaped}
-use Rattle.params.proofs.Sets.{has-none}
+use Rattle.params.proofs.Sets.{has-none, within-has}
 use Rattle.serials.specs.Serials.{Stamped}
-use Rattle.gates.proofs.Valid.{reconfigure-accepted}
+use Rattle.gates.proofs.Valid.{damage-accepted, reconfigure-accepted}
 use Rattle.code.specs.Calls.{UpdatePost, RepairPost, DecodePost, ReconfigurePost, Reconfigured}
 use Rattle.blocks.specs.Bytes.{over}
-use Rattle.blocks.proofs.Laws.{over-same}
+use Rattle.placing.specs.Placed.{Puttable, PutPost}
 use Rattle.ledger.specs.Ledger as ledger
 use Rattle.ledger.specs.Ledger.{Held, begun, damagedWord, damagedHeld, Step, updated, repaired, decoded, reconfigured, damaged}
 use Rattle.ledger.proofs.Invariant.{moved-same, damaged-same}
@@ -119,74 +113,70 @@ module _ (a : Params) (v : Valid a) (buffer serials new numbers : List ℕ) (hb 
 -- ---- damage
 
 module _ (a : Params) (input : List ℕ) (f : DamageFields) (buffer : List ℕ) (v : Valid a) (hb : length buffer ≡ 32768)
-    (s : Stretch (length input) (f .block) (a .b)) (j : ℕ) (node : f .node .0 ≡ suc j) (below : j < a .n) where
+    (s : Stretch (length input) (f .blocks) (size (f .nodes .0) * a .b)) (word : f .nodes .0 < 2 ^ 32) (z : Accepted a (Damage f)) where
   fits : a .n * a .b ≤ length buffer
   fits = omega (arith, blocks-room a (a .n) v (omega arith))
 
-  given : length (bytesOf input (f .block)) ≡ a .b
-  given = stretch-length input (f .block) (a .b) s
+  whole : length (take (a .n * a .b) buffer) ≡ a .n * a .b
+  whole = length-take-le (a .n * a .b) buffer fits
 
-  module _ (block : List ℕ) (full : length block ≡ a .b) where
-    -- byte p of block i after the damage
-    after : ℕ → ℕ → ℕ
-    after i p = cond (eqb (suc i) (f .node .0)) (getD block p 0) (cell (a .b) (take (a .n * a .b) buffer) i p)
-
-    damaged-cell : (i p : ℕ) → i < a .n → p < a .b → cell (a .b) (putBlock (a .b) j buffer block) i p ≡ after i p
-    unfolding after
-    damaged-cell i p hi hp =
-        ⊎-elim
-        (λ (e : i ≡ j).
-        ap (λ (k : ℕ). cell (a .b) (putBlock (a .b) j buffer block) k p) e ∙ putBlock-here (a .b) (a .n) j buffer block below fits full p hp
-        ∙ sym (ap (λ (t : Bool). cond t (getD block p 0) (cell (a .b) (take (a .n * a .b) buffer) i p)) (eq-eqb (suc i) (f .node .0) (ap suc e ∙ sym node))))
-        (λ (ne : i ≡ j → ⊥).
-        putBlock-other (a .b) (a .n) j buffer block below fits full i p ne hp ∙ sym (cell-take (a .b) (a .n) buffer i p hi hp)
-        ∙ sym (ap (λ (t : Bool). cond t (getD block p 0) (cell (a .b) (take (a .n * a .b) buffer) i p)) (ne-eqb (suc i) (f .node .0) (λ q. ne (omega arith)))))
-        (eq-or i j)
-
-    damaged-word : take (a .n * a .b) (putBlock (a .b) j buffer block) ≡ damagedWord a (take (a .n * a .b) buffer) (f .node .0) block
-    unfolding damagedWord after
-    damaged-word =
-        cells-ext (a .b) (a .n) _ _ (v .b-low)
-        (length-take-le (a .n * a .b) _ (omega (arith, fits, putBlock-length (a .b) (a .n) j buffer block below fits full)))
-        (length-blocks (a .b) (a .n) _)
-        (λ i p hi hp. cell-take (a .b) (a .n) _ i p hi hp ∙ damaged-cell i p hi hp ∙ sym (cell-blocks (a .b) (a .n) after i p hi hp))
-
-    behind : drop (a .n * a .b) (putBlock (a .b) j buffer block) ≡ drop (a .n * a .b) buffer
-    behind =
-        let ends : j * a .b + a .b ≤ a .n * a .b = row-ends (a .n) j (a .b) (a .n * a .b) below (omega arith) in
-        let e : j * a .b + a .b + (a .n * a .b - (j * a .b + a .b)) ≡ a .n * a .b = omega arith in
-        ap (λ (m : ℕ). drop m (putBlock (a .b) j buffer block)) (sym e)
-        ∙ sym (drop-drop (a .n * a .b - (j * a .b + a .b)) (j * a .b + a .b) (putBlock (a .b) j buffer block))
-        ∙ ap (drop (a .n * a .b - (j * a .b + a .b)))
-        (drop-put (j * a .b) (j * a .b + a .b) buffer block (omega arith) (omega (arith, fits)) (full ∙ omega arith))
-        ∙ drop-drop (a .n * a .b - (j * a .b + a .b)) (j * a .b + a .b) buffer ∙ ap (λ (m : ℕ). drop m buffer) e
-
-  pub damage-applied : Accepted a (Damage f) → (new : List ℕ)
-      → new ≡ over (partOf (a .b) j buffer) (take (f .block .at + f .block .count - f .block .at) (drop (f .block .at) input))
-      → (room serials : List ℕ) (serial : ℕ) → Quiet a input serial (Damage f) buffer serials room (putBlock (a .b) j buffer new) serials
+  -- the nodes are all within n, and there is a block for each
+  puttable : Puttable (a .b) (f .nodes .0) (length (take (a .n * a .b) buffer)) (length (bytesOf input (f .blocks)))
   unfolding answerOf
-  damage-applied z new e room serials serial =
-      let same : new ≡ bytesOf input (f .block) =
-      e ∙ over-same (partOf (a .b) j buffer) _
-      (ap length (part-is input (f .block)) ∙ given ∙ sym (length-partOf (a .b) j buffer (row-ends (a .n) j (a .b) (length buffer) below fits)))
-      ∙ part-is input (f .block) in
-      let full : length new ≡ a .b = ap length same ∙ given in
+  puttable =
+      record {
+        inside = (
+          v .b-low,
+          λ j e.
+              row-ends (a .n) j (a .b) _ (within-has (a .n) (f .nodes .0) word .0 (damage-accepted (a .n) (f .nodes .0) .0 (z .1)) (suc j) e) (omega (arith, whole)),
+        );
+        room = stretch-length input (f .blocks) _ s;
+      }
+
+  module _ (new : List ℕ) (put : PutPost (a .b) (f .nodes .0) (bytesOf input (f .blocks)) (take (a .n * a .b) buffer) new) where
+    full : length new ≡ a .n * a .b
+    full = put .same ∙ whole
+
+    damaged-word : damagedWord a (take (a .n * a .b) buffer) (f .nodes .0) (bytesOf input (f .blocks)) ≡ new
+    unfolding damagedWord
+    damaged-word =
+        cells-ext (a .b) (a .n) _ _ (v .b-low) (length-blocks (a .b) (a .n) _) full
+        (λ j p hj hp. cell-blocks (a .b) (a .n) _ j p hj hp ∙ by j p hp (has (f .nodes .0) (suc j)) refl)
+      where
+        by : (j p : ℕ) → p < a .b → (t : Bool) → has (f .nodes .0) (suc j) ≡ t
+            → cond t (cell (a .b) (bytesOf input (f .blocks)) (count (has (f .nodes .0)) j) p) (cell (a .b) (take (a .n * a .b) buffer) j p) ≡ cell (a .b) new j p
+        by j p hp true e = sym (put .put puttable j p e hp)
+        by j p hp false e = sym (put .others j p e hp)
+
+    effected : (serials : List ℕ) (serial : ℕ)
+        → Effected a input serial (Damage f) buffer serials a [] (new ++ drop (a .n * a .b) buffer) serials
+    unfolding answerOf
+    effected serials serial =
+        record {
+          prints = refl;
+          step =
+              subst
+              (λ (l : List ℕ).
+              Step (heldIn a buffer serials) (ledger.damage (f .nodes .0) (bytesOf input (f .blocks))) (answerOf a serial (Damage f)) (begun a l (take (a .n) serials)))
+              (damaged-word ∙ sym (front-take (a .n * a .b) buffer new fits full))
+              (subst
+              (λ (q : ℕ).
+              Step (heldIn a buffer serials) (ledger.damage (f .nodes .0) (bytesOf input (f .blocks))) (answerOf a serial (Damage f))
+              (damagedHeld q (heldIn a buffer serials) (f .nodes .0) (bytesOf input (f .blocks))))
+              (z .1) (damaged refl));
+          length-is = front-length (a .n * a .b) buffer new fits full;
+          rest = front-drop (a .n * a .b) buffer new fits full;
+          serials-length = refl;
+          serials-rest = refl;
+        }
+
+  pub damage-applied : (new : List ℕ)
+      → PutPost (a .b) (f .nodes .0) (take (f .blocks .at + f .blocks .count - f .blocks .at) (drop (f .blocks .at) input)) (take (a .n * a .b) buffer) new
+      → (room serials : List ℕ) (serial : ℕ) → Quiet a input serial (Damage f) buffer serials room (new ++ drop (a .n * a .b) buffer) serials
+  damage-applied new put room serials serial =
       quiet 0 a input serial (Damage f) buffer serials room _ _ refl
-      (record {
-        prints = refl;
-        step =
-            subst₂
-            (λ (x l : List ℕ). Step (heldIn a buffer serials) (ledger.damage (f .node .0) x) (answerOf a serial (Damage f)) (begun a l (take (a .n) serials)))
-            same (sym (damaged-word new full))
-            (subst
-            (λ (q : ℕ).
-            Step (heldIn a buffer serials) (ledger.damage (f .node .0) new) (answerOf a serial (Damage f)) (damagedHeld q (heldIn a buffer serials) (f .node .0) new))
-            (z .1) (damaged refl));
-        length-is = putBlock-length (a .b) (a .n) j buffer new below fits full;
-        rest = behind new full;
-        serials-length = refl;
-        serials-rest = refl;
-      })
+      (effected new
+      (subst (λ (fresh : List ℕ). PutPost (a .b) (f .nodes .0) fresh (take (a .n * a .b) buffer) new) (part-is input (f .blocks)) put) serials serial)
 
 -- ---- reading
 
@@ -296,7 +286,7 @@ refused-step : (h : Held) (input : List ℕ) (serial : ℕ) (e : Event) (q : ℕ
 refused-step h input serial (Update f) q g ne = updated q _ _ (record { number = g; served = λ z. absurd (ne z); refused = λ _. (refl, refl) })
 refused-step h input serial (Repair f) q g ne = repaired q _ _ (record { number = g; served = λ z. absurd (ne z); refused = λ _. (refl, refl) })
 refused-step h input serial (Damage f) q g ne =
-    subst (Step h (listed h input serial (Damage f)) q) (damaged-same q h (f .node .0) (bytesOf input (f .block)) ne) (damaged g)
+    subst (Step h (listed h input serial (Damage f)) q) (damaged-same q h (f .nodes .0) (bytesOf input (f .blocks)) ne) (damaged g)
 refused-step h input serial (Decode f) q g ne = decoded q _ (record { number = g; served = λ z. absurd (ne z); refused = λ _. refl })
 refused-step h input serial (Reconfigure f) q g ne =
     subst (Step h (listed h input serial (Reconfigure f)) q) (moved-same q h (h .params) (f .shape) _ _ ne)

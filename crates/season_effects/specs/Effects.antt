@@ -4,6 +4,7 @@ use mathlib.Core.List.{List, [], _++_}
 use Prim.Native.Nat.{ℕ, zero, suc, _+_, _*_, _≤_}
 use lib.ListN.{length, take, drop}
 use Rattle.gates.specs.Valid.{Valid}
+use Rattle.params.specs.Nodes.{size}
 use Rattle.params.specs.declared.Params.{Params}
 use Rattle.ledger.specs.Ledger.{Step}
 use Rattle.season_answers.specs.Answers.{answerOf}
@@ -20,11 +21,11 @@ pub record Stretch (input : ℕ) (s : Span) (count : ℕ) : Type 0 where
   pub inside : s .at + s .count ≤ input
   pub counted : s .count ≡ count
 
--- the event's block stands within the input and is as long as the parameters in force say
+-- the event's blocks stand within the input and are as long as the parameters in force and its fields say
 abbrev pub InFull : Params → ℕ → Event → Type 0
 InFull a input (Update f) = Stretch input (f .change) (a .k * a .b)
 InFull a input (Repair f) = Unit {0}
-InFull a input (Damage f) = Stretch input (f .block) (a .b)
+InFull a input (Damage f) = Stretch input (f .blocks) (size (f .nodes .0) * a .b)
 InFull a input (Decode f) = Unit {0}
 InFull a input (Reconfigure f) = Stretch input (f .message) (f .shape .k * a .b)
 

@@ -18,7 +18,7 @@ use Rattle.season_file.specs.declared.Event.the-variants.{Update, Repair, Damag
 abbrev pub listed : Held → List ℕ → (serial : ℕ) → Event → ledger.Event
 listed h input serial (Update f) = call (inForce h) (update (bytesOf input (f .change)) (f .to .0) serial (f .to .0))
 listed h input serial (Repair f) = call (inForce h) (repair (f .from .0) (f .lost .0))
-listed h input serial (Damage f) = damage (f .node .0) (bytesOf input (f .block))
+listed h input serial (Damage f) = damage (f .nodes .0) (bytesOf input (f .blocks))
 listed h input serial (Decode f) = call (inForce h) (decode (replicate (h .params .k * h .params .b) 0) (f .from .0))
 listed h input serial (Reconfigure f) =
     call (inForce h)

@@ -5,6 +5,7 @@ use decoding::decode;
 use maintenance::repair;
 use params::NodeSet;
 use params::Params;
+use placing::put_blocks;
 use reconfiguration::reconfigure;
 use season_file::DamageFields;
 use season_file::DecodeFields;
@@ -18,6 +19,7 @@ ghost use mathlib.Core.Path.{_≡_};
 ghost use mathlib.Core.List.{List};
 ghost use Prim.Native.Nat.{ℕ, _*_};
 ghost use lib.ListN.{length};
+ghost use Rattle.params.specs.Nodes.{size};
 ghost use Rattle.gates.specs.Valid.{Valid};
 ghost use Rattle.season_answers.specs.Answers.{answerOf};
 ghost use Rattle.season_file.specs.declared.Event.the-variants.{Update, Repair, Damage, Decode, Reconfigure};
@@ -100,19 +102,18 @@ fn apply_repair(a: Params, f: RepairFields, codeword: &mut [u8], serials: &mut [
     }
 }
 
-// The node's block becomes the bytes given; its serial stays.
+// The blocks of the set's nodes become those given; their serials stay.
 fn apply_damage(a: Params, input: &[u8], f: DamageFields, codeword: &mut [u8]) -> Effect
     requires { ⌜ Valid a ⌝ }
     requires { ⌜ length (now codeword) ≡ 32768 ⌝ }
-    requires { ⌜ Stretch (length (now input)) (f .block) (a .b) ⌝ }
+    requires { ⌜ Stretch (length (now input)) (f .blocks) (size (f .nodes .0) * a .b) ⌝ }
     requires { ⌜ Accepted a (Damage f) ⌝ }
     ensures { λ r. ⌜ (r .answer ≡ 0) × ((room serials : List ℕ) (serial : ℕ) → Taken a (now (input .entry)) serial (Damage f) (now (codeword .entry)) serials room r (now (codeword .exit)) serials room) ⌝ }
 {
-    let at = f.block.at;
-    let end = at + f.block.count;
-    let start = (f.node.0 as usize - 1) * a.b;
-    let stop = start + a.b;
-    copy_block(&mut codeword[start..stop], &input[at..end]);
+    let length = a.n * a.b;
+    let at = f.blocks.at;
+    let end = at + f.blocks.count;
+    put_blocks(&mut codeword[..length], f.nodes, &input[at..end], a.b);
     Effect {
         params: a,
         answer: 0,

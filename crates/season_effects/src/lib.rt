@@ -22,7 +22,7 @@ pub struct Effect {
 }
 
 // The event's answer and its effect, with room for a message or a new record: none where it is refused. The serial is the event's number. The room has 32,768
-// bytes too; with other lengths, with parameters that no set-up accepts, or where the event's block does not stand in the input in full, nothing is done.
+// bytes too; with other lengths, with parameters that no set-up accepts, or where the event's blocks do not stand in the input in full, nothing is done.
 pub fn take_effect(
     a: Params,
     input: &[u8],
@@ -72,7 +72,7 @@ fn is_ready(a: Params, input: usize, e: Event, codeword: usize, serials: usize, 
     match e {
         Event::Update(f) => is_stretch(input, f.change, a.k * a.b),
         Event::Repair(_) => true,
-        Event::Damage(f) => is_stretch(input, f.block, a.b),
+        Event::Damage(f) => is_stretch(input, f.blocks, f.nodes.size() * a.b),
         Event::Decode(_) => true,
         Event::Reconfigure(f) => is_stretch(input, f.message, f.shape.k * a.b),
     }

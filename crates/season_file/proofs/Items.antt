@@ -37,11 +37,10 @@ module _ (a : Params) (input : List ℕ) (at kind : ℕ) where
   repair-is from lost e f l =
       ap₂ (λ (s t : ℕ). Repair (record { from = record { 0 = s }; lost = record { 0 = t } })) f l ∙ sym (ap (eventAt a input at) e)
 
-  pub damage-is : (count : ℕ) → kind ≡ 3 → count ≡ following a input at kind
-      → Damage (record { node = record { 0 = getD input at 0 }; block = record { at = at + 1; count = count } }) ≡ eventAt a input at kind
-  damage-is count e h =
-      ap (λ (n : ℕ). Damage (record { node = record { 0 = getD input at 0 }; block = record { at = at + 1; count = n } }))
-      (h ∙ ap (following a input at) e)
+  pub damage-is : (count : ℕ) (nodes : NodeSet) → kind ≡ 3 → count ≡ following a input at kind → nodes .0 ≡ choiceAt input at
+      → Damage (record { nodes = nodes; blocks = record { at = at + 4; count = count } }) ≡ eventAt a input at kind
+  damage-is count nodes e h t =
+      ap₂ (λ (s n : ℕ). Damage (record { nodes = record { 0 = s }; blocks = record { at = at + 4; count = n } })) t (h ∙ ap (following a input at) e)
       ∙ sym (ap (eventAt a input at) e)
 
   pub decode-is : (from : NodeSet) → kind ≡ 4 → from .0 ≡ choiceAt input at → Decode (record { from = from }) ≡ eventAt a input at kind

@@ -5,6 +5,7 @@ use mathlib.Core.List.{List}
 use Prim.Native.Nat.{ℕ, _+_, _*_}
 use lib.Dec.{ltb, eqb}
 use lib.ListN.{length, getD, take, drop}
+use Rattle.params.specs.Nodes.{size}
 use Rattle.params.specs.declared.Params.{Params}
 use Rattle.params.specs.declared.NodeSet.{NodeSet}
 use Rattle.season_file.specs.declared.Span.{Span}
@@ -76,21 +77,22 @@ abbrev pub byKind : {A : Type 0} → ℕ → A → A → A → A → A → A
 byKind kind change rebuild damage reading rearrangement =
     cond (eqb kind 1) change (cond (eqb kind 2) rebuild (cond (eqb kind 3) damage (cond (eqb kind 4) reading rearrangement)))
 
--- "1 change: W, k·B bytes; 2 rebuild: R, L; 3 damage: trap in one byte, B bytes; 4 reading: R; 5 rearrangement: R, k', r', w', n', W', k'·B bytes."
+-- "1 change: W, k·B bytes; 2 rebuild: R, L; .. 4 reading: R; 5 rearrangement: R, k', r', w', n', W', k'·B bytes." "Season event 3 takes a choice in place of one
+-- trap, then B bytes for each of its one bits, in rising order, even for bits above n" (document 02, 2026-04).
 -- How many bytes the fields before the block bytes have, ..
 abbrev pub fixed : ℕ → ℕ
-fixed kind = byKind kind 4 8 1 4 16
+fixed kind = byKind kind 4 8 4 4 16
 
 -- .. and how many block bytes follow them: "Lengths use the arrangement in force", and B stays in a rearrangement. `at` is where the fields begin.
 abbrev pub following : Params → List ℕ → ℕ → ℕ → ℕ
-following a input at kind = byKind kind (a .k * a .b) 0 (a .b) 0 (numberAt input (at + 4) * a .b)
+following a input at kind = byKind kind (a .k * a .b) 0 (size (choiceAt input at) * a .b) 0 (numberAt input (at + 4) * a .b)
 
 -- the event of a kind from 1 to 5 whose fields begin at `at`
 abbrev pub eventAt : Params → List ℕ → ℕ → ℕ → Event
 eventAt a input at kind =
-    byKind kind (Update (record { to = set input at; change = record { at = at + 4; count = a .k * a .b } }))
+    byKind kind (Update (record { to = set input at; change = record { at = at + 4; count = following a input at 1 } }))
     (Repair (record { from = set input at; lost = set input (at + 4) }))
-    (Damage (record { node = record { 0 = getD input at 0 }; block = record { at = at + 1; count = a .b } }))
+    (Damage (record { nodes = set input at; blocks = record { at = at + 4; count = following a input at 3 } }))
     (Decode (record { from = set input at }))
     (Reconfigure
     (record {
@@ -103,7 +105,7 @@ eventAt a input at kind =
             n = numberAt input (at + 10);
           };
       to = set input (at + 12);
-      message = record { at = at + 16; count = numberAt input (at + 4) * a .b };
+      message = record { at = at + 16; count = following a input at 5 };
     }))
 
 -- the event's kind

@@ -2,7 +2,6 @@
 // and how many bytes they have.
 pub mod parsing;
 
-use params::Node;
 use params::NodeSet;
 use params::Params;
 use params::Shape;
@@ -30,8 +29,9 @@ pub struct RepairFields {
 
 // Kind 3, damage.
 pub struct DamageFields {
-    pub node: Node,
-    pub block: Span,
+    pub nodes: NodeSet,
+    // a block for each of them, in rising order
+    pub blocks: Span,
 }
 
 // Kind 4, reading.

@@ -13,7 +13,6 @@ use super::Span;
 use super::UpdateFields;
 use super::area;
 use base::wide;
-use params::Node;
 use params::NodeSet;
 use params::Params;
 use params::Shape;
@@ -153,13 +152,14 @@ fn fixed(kind: u8) -> usize
     match kind {
         1 => 4,
         2 => 8,
-        3 => 1,
+        3 => 4,
         4 => 4,
         _ => 16,
     }
 }
 
-// How many block bytes follow those fields, the largest usize where there are more: by the arrangement in force, for a rearrangement by the new k.
+// How many block bytes follow those fields, the largest usize where there are more: by the arrangement in force, for damage by the size of its set, whichever
+// nodes are in it, for a rearrangement by the new k.
 fn following(a: Params, input: &[u8], at: usize, kind: u8) -> usize
     requires { ⌜ at + fixed kind ≤ length (now input) ⌝ }
     ensures { λ r. ⌜ r ≡ capped (following a (now (input .entry)) at kind) ⌝ }
@@ -167,7 +167,10 @@ fn following(a: Params, input: &[u8], at: usize, kind: u8) -> usize
     match kind {
         1 => area(a.k, a.b),
         2 => 0,
-        3 => a.b,
+        3 => {
+            let nodes = set_at(input, at);
+            area(nodes.size(), a.b)
+        }
         4 => 0,
         _ => {
             let k = number_at(input, at + 4);
@@ -191,8 +194,8 @@ fn event_at(input: &[u8], at: usize, kind: u8, count: usize) -> Event
             lost: set_at(input, at + 4),
         }),
         3 => Event::Damage(DamageFields {
-            node: Node(input[at]),
-            block: Span { at: at + 1, count },
+            nodes: set_at(input, at),
+            blocks: Span { at: at + 4, count },
         }),
         4 => Event::Decode(DecodeFields {
             from: set_at(input, at),

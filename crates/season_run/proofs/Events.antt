@@ -75,7 +75,7 @@ header-counted input hd bytes e =
 abbrev Small : Event → Type 0
 Small (Update f) = f .to .0 < 2 ^ 32
 Small (Repair f) = (f .from .0 < 2 ^ 32) × (f .lost .0 < 2 ^ 32)
-Small (Damage f) = Unit {0}
+Small (Damage f) = f .nodes .0 < 2 ^ 32
 Small (Decode f) = f .from .0 < 2 ^ 32
 Small (Reconfigure f) = (f .from .0 < 2 ^ 32) × (f .to .0 < 2 ^ 32)
 
@@ -99,7 +99,7 @@ event-good a input at kind =
     by-kind (λ e m q. at + m + q ≤ length input → Good a input e) (eqb kind 1) (eqb kind 2) (eqb kind 3) (eqb kind 4)
     (λ h. record { found = record { inside = omega arith; counted = refl }; small = choice-small input at })
     (λ h. record { found = tt; small = λ hb. (choice-small input at hb, choice-small input (at + 4) hb) })
-    (λ h. record { found = record { inside = omega arith; counted = refl }; small = λ hb. tt })
+    (λ h. record { found = record { inside = omega arith; counted = refl }; small = choice-small input at })
     (λ h. record { found = tt; small = choice-small input at })
     (λ h. record { found = record { inside = omega arith; counted = refl }; small = λ hb. (choice-small input at hb, choice-small input (at + 12) hb) })
 
@@ -125,7 +125,7 @@ pub typed : (h : Held) (input : List ℕ) (serial : ℕ) (e : Event) → Bytes i
     → Typed (listed h input serial e)
 typed h input serial (Update f) hb hs g = ((tt, tt), span-bytes input (f .change) hb, g .small hb, hs, g .small hb)
 typed h input serial (Repair f) hb hs g = ((tt, tt), g .small hb .0, g .small hb .1)
-typed h input serial (Damage f) hb hs g = span-bytes input (f .block) hb
+typed h input serial (Damage f) hb hs g = (g .small hb, span-bytes input (f .blocks) hb)
 typed h input serial (Decode f) hb hs g = ((tt, tt), bytes-zeros (h .params .k * h .params .b), g .small hb)
 typed h input serial (Reconfigure f) hb hs g = (
   (tt, tt),

@@ -1,5 +1,5 @@
--- The sample of document 01 ("The season program"): its output is the output of its input, each event by computing what its call's post-condition comes down
--- to. Assumes nothing.
+-- The sample of document 01 ("The season program") in the form of document 02, 2026-04: its output is the output of its input, each event by computing what its
+-- call's post-condition comes down to. And a file for the edges of that request. Assumes nothing.
 use mathlib.Core.Path.{_≡_, refl}
 use mathlib.Core.List.{List, [], _∷_}
 use Prim.Native.Nat.{ℕ, _≤_}
@@ -23,10 +23,11 @@ use Rattle.season_lines.specs.Lines.{digitsBefore, decimal, hexDigit, hex, mess
 use Rattle.season_answers.specs.Answers.{answerOf}
 use Rattle.season_file.specs.declared.Found.{Found}
 use Rattle.season_file.specs.declared.Event.the-variants.{Update, Damage, Decode}
-use Rattle.season_run.specs.Season.{Season, season, opened, turn, tried, over, done}
+use Rattle.season_run.specs.Season.{Season, season, opened, turn, tried, faulty, over, done}
 use Rattle.season_run.proofs.Output.{output-unique}
 
--- "Input: 0005 0001 0002 0002 0003 0001, 0001 07, 0001 01, 0005, 01 00000003 05, 04 00000005, 01 00000005 02, 03 01 FF, 04 00000006."
+-- "Input: 0005 0001 0002 0002 0003 0001, 0001 07, 0001 01, 0005, 01 00000003 05, 04 00000005, 01 00000005 02, .., 04 00000006", with the damage event, which was
+-- 03 01 FF, in the form of document 02, 2026-04: 03 00000001 FF
 abbrev pub input : List ℕ
 input =
     0x00 ∷ 0x05 ∷ 0x00 ∷ 0x01 ∷ 0x00 ∷ 0x02 ∷ 0x00 ∷ 0x02 ∷ 0x00 ∷ 0x03 ∷ 0x00 ∷ 0x01 ∷
@@ -36,7 +37,7 @@ input =
     0x01 ∷ 0x00 ∷ 0x00 ∷ 0x00 ∷ 0x03 ∷ 0x05 ∷
     0x04 ∷ 0x00 ∷ 0x00 ∷ 0x00 ∷ 0x05 ∷
     0x01 ∷ 0x00 ∷ 0x00 ∷ 0x00 ∷ 0x05 ∷ 0x02 ∷
-    0x03 ∷ 0x01 ∷ 0xff ∷
+    0x03 ∷ 0x00 ∷ 0x00 ∷ 0x00 ∷ 0x01 ∷ 0xff ∷
     0x04 ∷ 0x00 ∷ 0x00 ∷ 0x00 ∷ 0x06 ∷ []
 
 -- "0 0 0", "1 1 0", "2 4 0 02", "3 1 0", "4 3 0", "5 4 0 00", a line end after each
@@ -60,10 +61,10 @@ abbrev reading : ℕ → ℕ → Found
 reading from after = record { event = Decode (record { from = record { 0 = from } }); next = after }
 
 abbrev blow : Found
-blow = record { event = Damage (record { node = record { 0 = 1 }; block = record { at = 39; count = 1 } }); next = 40 }
+blow = record { event = Damage (record { nodes = record { 0 = 1 }; blocks = record { at = 42; count = 1 } }); next = 43 }
 
 -- nothing is left over
-ends : length input ≤ 45
+ends : length input ≤ 48
 ends = omega arith
 
 pub sample : Season input output
@@ -101,7 +102,7 @@ sample =
     (tried 1 blow _ (stands (0xff ∷ 0x0c ∷ 0x0f ∷ []) (3 ∷ 1 ∷ 3 ∷ [])) refl refl
     (record { message = []; prints = refl; line-is = refl; step = damaged refl })) (
     turn
-    (tried 0 (reading 6 45) _ (stands (0xff ∷ 0x0c ∷ 0x0f ∷ []) (3 ∷ 1 ∷ 3 ∷ [])) refl refl
+    (tried 0 (reading 6 48) _ (stands (0xff ∷ 0x0c ∷ 0x0f ∷ []) (3 ∷ 1 ∷ 3 ∷ [])) refl refl
     (record {
       message = 0x00 ∷ [];
       prints = record { served = λ _. decode-by _ _ _ _ (0x03 ∷ []) tt (0x00 ∷ []) refl .served refl; refused = λ ne. absurd (ne refl) };
@@ -112,3 +113,39 @@ sample =
 -- no other output belongs to it
 pub sample-only : {other : List ℕ} → Season input other → other ≡ output
 sample-only s = output-unique s sample
+
+-- ---- boxes of cards, for the same arrangement, message and slack
+
+-- 03 0000000C AA BB: nodes 3 and 4, of which there is no fourth. 03 00000000: an empty box. 03 000000FF: 8 nodes, but 7 bytes.
+abbrev pub boxes : List ℕ
+boxes =
+    0x00 ∷ 0x05 ∷ 0x00 ∷ 0x01 ∷ 0x00 ∷ 0x02 ∷ 0x00 ∷ 0x02 ∷ 0x00 ∷ 0x03 ∷ 0x00 ∷ 0x01 ∷
+    0x00 ∷ 0x01 ∷ 0x07 ∷
+    0x00 ∷ 0x01 ∷ 0x01 ∷
+    0x00 ∷ 0x03 ∷
+    0x03 ∷ 0x00 ∷ 0x00 ∷ 0x00 ∷ 0x0c ∷ 0xaa ∷ 0xbb ∷
+    0x03 ∷ 0x00 ∷ 0x00 ∷ 0x00 ∷ 0x00 ∷
+    0x03 ∷ 0x00 ∷ 0x00 ∷ 0x00 ∷ 0xff ∷ 0xcc ∷ 0xcc ∷ 0xcc ∷ 0xcc ∷ 0xcc ∷ 0xcc ∷ 0xcc ∷ []
+
+-- "0 0 0", "1 3 7", "2 3 0", "3 3 21": node 3 keeps its block, the empty box is accepted, and 21 comes before 7
+abbrev pub boxes-output : List ℕ
+boxes-output =
+    48 ∷ 32 ∷ 48 ∷ 32 ∷ 48 ∷ 10 ∷ 49 ∷ 32 ∷ 51 ∷ 32 ∷ 55 ∷ 10 ∷ 50 ∷ 32 ∷ 51 ∷ 32 ∷ 48 ∷ 10 ∷ 51 ∷ 32 ∷ 51 ∷ 32 ∷ 50 ∷ 49 ∷ 10 ∷ []
+
+abbrev box : ℕ → ℕ → ℕ → ℕ → Found
+box nodes at count after = record { event = Damage (record { nodes = record { 0 = nodes }; blocks = record { at = at; count = count } }); next = after }
+
+pub boxes-run : Season boxes boxes-output
+unfolding openingOf itemAt numberAt choiceAt lineOf decimal digitsBefore messageField answerOf encodeGate damageGate firstNo
+    slackParts has size ones within count cell blocks tabulate block point evaluate sum add mul pow damagedWord
+boxes-run =
+    season
+    (opened (record { params = small; message = record { at = 14; count = 1 }; slack = record { at = 17; count = 1 }; events = 3; at = 20 })
+    (0x06 ∷ 0x0a ∷ 0x0c ∷ []) (0 ∷ 0 ∷ 0 ∷ []) refl (encode-by _ _ _ _ _ tt _ _ refl refl)) (
+    turn
+    (tried 2 (box 0b1100 25 2 27) _ (stands (0x06 ∷ 0x0a ∷ 0x0c ∷ []) (0 ∷ 0 ∷ 0 ∷ [])) refl refl
+    (record { message = []; prints = refl; line-is = refl; step = damaged refl })) (
+    turn
+    (tried 1 (box 0b0000 32 0 32) _ (stands (0x06 ∷ 0x0a ∷ 0x0c ∷ []) (0 ∷ 0 ∷ 0 ∷ [])) refl refl
+    (record { message = []; prints = refl; line-is = refl; step = damaged refl })) (
+    turn (faulty 0 (record { kind = 3; number = 21 }) refl refl) done)))

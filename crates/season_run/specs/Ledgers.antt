@@ -41,7 +41,7 @@ FromUndamaged m (call g (decode buffer from)) = Unit {0}
 FromUndamaged m (call g (delta d buffer to)) = Unit {0}
 FromUndamaged m (call g check) = Unit {0}
 FromUndamaged m (call g (view node)) = Unit {0}
-FromUndamaged m (damage node bytes) = Unit {0}
+FromUndamaged m (damage nodes bytes) = Unit {0}
 
 -- .. at each event of the run so far
 abbrev pub ReadsUndamaged : {input : List ℕ} {events : List Event} {here : Place} {m : Machine} → Reached input events here m → Type 0

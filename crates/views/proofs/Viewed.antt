@@ -17,13 +17,13 @@ hidden a codeword i gate e ne = record { number = refl; served = λ z. absurd (n
 
 module _ (a : Params) (codeword : List ℕ) (i gate number : ℕ) (e : gate ≡ viewGate a (length codeword) i) (yes : gate ≡ 0) (same : number ≡ i) where
   pub some : 1 ≤ number
-  some = let ok = view-accepted a (length codeword) i .0 (sym e ∙ yes) in omega (arith, ok .node .node-low)
+  some = let ok = view-accepted a (length codeword) i .0 (sym e ∙ yes) in omega (arith, ok .node-low)
 
   -- the block ends within the codeword
   pub view-inside : (number - 1) * a .b + a .b ≤ length codeword
   view-inside =
       let ok = view-accepted a (length codeword) i .0 (sym e ∙ yes) in
-      row-ends (a .n) (number - 1) (a .b) (length codeword) (omega (arith, ok .node .node-low, ok .node .node-high)) (omega (arith, ok .codeword-length))
+      row-ends (a .n) (number - 1) (a .b) (length codeword) (omega (arith, ok .node-low, ok .node-high)) (omega (arith, ok .codeword-length))
 
   pub viewed : ViewPost a codeword i (partOf (a .b) (number - 1) codeword)
   viewed =

@@ -1,27 +1,21 @@
--- One question, one test of two comparisons. Assumes nothing.
+-- One question, one test. Assumes nothing.
 use mathlib.Core.Path.{sym, _∙_}
 use borrow.Author.Needs.{needs}
-use borrow.Author.Tests.{not-true, not-false}
 use Rattle.gates.specs.Gates.{damageGate}
 use Rattle.base.proofs.Questions.{nay, yea, over, first}
-use Rattle.gates.proofs.Answers.{out-of-two}
 use Rattle.gates.proofs.damage_gate.Statement.{statement}
 use Rattle.gates.proofs.damage_gate.Tie as tie
 
-cast-number : tie.Need-cast-number
-cast-number c = search needs
+within-requires : tie.Need-within-requires
+within-requires c κs = search needs
 
 returns : tie.Need-returns
 unfolding damageGate
-returns c =
-    let s = c .before .before .args in
-    first _ (nay (not-true _ (sym (out-of-two (s .node .0) 1 (s .n) (s .node .0)) ∙ c .if1 .taken)))
+returns c = first _ (yea (sym (c .before .within .ensures) ∙ c .if1 .taken) over)
 
 returns-2 : tie.Need-returns-2
 unfolding damageGate
-returns-2 c =
-    let s = c .before .before .args in
-    first _ (yea (not-false _ (sym (out-of-two (s .node .0) 1 (s .n) (s .node .0)) ∙ c .if1 .left)) over)
+returns-2 c = first _ (nay (sym (c .before .within .ensures) ∙ c .if1 .left))
 
 pub damage-gate-spec : {M : Type 1} → statement M
-damage-gate-spec = tie.close (tie.spec cast-number returns returns-2)
+damage-gate-spec = tie.close (tie.spec within-requires returns returns-2)

@@ -1,6 +1,6 @@
--- The questions of check, then that of a damage event. Assumes nothing.
+-- The questions of check, then the node's. Assumes nothing.
 use borrow.Author.Needs.{needs}
-use Rattle.gates.specs.Gates.{checkGate, viewGate, damageGate, nodeAsked}
+use Rattle.gates.specs.Gates.{checkGate, viewGate, nodeAsked}
 use mathlib.Core.List.{[], _∷_}
 use Rattle.gates.proofs.Valid.{checkAsked}
 use Rattle.gates.proofs.Answers.{refused, passed}
@@ -10,8 +10,8 @@ use Rattle.gates.proofs.view_gate.Tie as tie
 check-gate-requires : tie.Need-check-gate-requires
 check-gate-requires c κs = search needs
 
-damage-gate-requires : tie.Need-damage-gate-requires
-damage-gate-requires c κs = search needs
+node-gate-requires : tie.Need-node-gate-requires
+node-gate-requires c κs = search needs
 
 returns : tie.Need-returns
 unfolding checkGate viewGate
@@ -20,10 +20,10 @@ returns c =
     refused (checkAsked (s .a) (s .codeword)) (nodeAsked (s .a .n) (s .node .0) ∷ []) (c .before .before .check-gate .ensures) (c .if1 .taken)
 
 returns-2 : tie.Need-returns-2
-unfolding checkGate viewGate damageGate
+unfolding checkGate viewGate
 returns-2 c =
     let s = c .before .before .before .args in
-    passed (checkAsked (s .a) (s .codeword)) (nodeAsked (s .a .n) (s .node .0) ∷ []) tt (c .before .before .check-gate .ensures) (c .if1 .left) (c .before .damage-gate .ensures)
+    passed (checkAsked (s .a) (s .codeword)) (nodeAsked (s .a .n) (s .node .0) ∷ []) tt (c .before .before .check-gate .ensures) (c .if1 .left) (c .before .node-gate .ensures)
 
 pub view-gate-spec : {M : Type 1} → statement M
-view-gate-spec = tie.close (tie.spec check-gate-requires damage-gate-requires returns returns-2)
+view-gate-spec = tie.close (tie.spec check-gate-requires node-gate-requires returns returns-2)

@@ -24,7 +24,7 @@ accepted : (c : tie.Else1)
 accepted c = view-accepted _ _ _ .0 (sym (c .before .view-status .ensures) ∙ c .if1 .left)
 
 sub-start : tie.Need-sub-start
-sub-start c = accepted c .node .node-low
+sub-start c = accepted c .node-low
 
 mul-start : tie.Need-mul-start
 mul-start c = record { fits = omega (arith, start-fits _ _ _ (accepted c)) }

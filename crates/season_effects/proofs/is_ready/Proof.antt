@@ -9,7 +9,7 @@ use Rattle.season_file.specs.declared.Event.{Event}
 use Rattle.season_answers.proofs.Records.{no-record, some-record}
 use Rattle.season_effects.specs.Effects.{InFull, Accepted, Ready}
 use Rattle.season_effects.proofs.Applied.{new-valid}
-use Rattle.season_effects.proofs.Readiness.{not-ready, ready-by}
+use Rattle.season_effects.proofs.Readiness.{not-ready, ready-by, box-fits, box-decided}
 use borrow.Author.Needs.{needs}
 use Rattle.season_effects.proofs.is_ready.Statement.{statement}
 use Rattle.season_effects.proofs.is_ready.Tie as tie
@@ -57,6 +57,15 @@ enum-told c = search needs
 enum-known-e-2 : tie.Need-enum-known-e-2
 enum-known-e-2 c = search needs
 
+size-requires : tie.Need-size-requires
+size-requires c κs = search needs
+
+mul-is-stretch-2 : tie.Need-mul-is-stretch-2
+mul-is-stretch-2 c =
+    let h = c .before .before .before .before .before in
+    let is = c .before .before .before .e2 .given .1 in
+    box-fits (start h .args .a) _ (valid h) (subst (Accepted (start h .args .a)) is (start h .pre)) _ (c .before .size .ensures)
+
 is-stretch-requires-2 : tie.Need-is-stretch-requires-2
 is-stretch-requires-2 c κs = search needs
 
@@ -66,8 +75,8 @@ enum-told-2 c = search needs
 enum-known-e-3 : tie.Need-enum-known-e-3
 enum-known-e-3 c = search needs
 
-mul-is-stretch-2 : tie.Need-mul-is-stretch-2
-mul-is-stretch-2 c =
+mul-is-stretch-3 : tie.Need-mul-is-stretch-3
+mul-is-stretch-3 c =
     let s = c .before .before .before .before .before .before .before .before .before .before in
     k-fits (new-valid (s .args .a) _ (subst (Accepted (s .args .a)) (c .before .before .before .e3 .given .1) (s .pre)))
 
@@ -81,7 +90,10 @@ returns-6 : tie.Need-returns-6
 returns-6 c = decided (c .before .before) _ _ (c .enum-told .given .1) (decided-true _ tt)
 
 returns-7 : tie.Need-returns-7
-returns-7 c = decided (c .before .before .before .before) _ _ (c .before .before .e2 .given .1) (c .is-stretch2 .ensures)
+returns-7 c =
+    let h = c .before .before .before .before .before .before in
+    decided h _ _ (c .before .before .before .before .e2 .given .1)
+    (box-decided (start h .args .a) (start h .args .input) _ _ _ (c .before .before .size .ensures) (c .is-stretch2 .ensures))
 
 returns-8 : tie.Need-returns-8
 returns-8 c = decided (c .before .before) _ _ (c .enum-told2 .given .1) (decided-true _ tt)
@@ -103,10 +115,12 @@ is-ready-spec =
     is-stretch-requires
     enum-told
     enum-known-e-2
+    size-requires
+    mul-is-stretch-2
     is-stretch-requires-2
     enum-told-2
     enum-known-e-3
-    mul-is-stretch-2
+    mul-is-stretch-3
     is-stretch-requires-3
     returns-5
     returns-6

@@ -1,92 +1,61 @@
--- The node is one of 1..n, and its block becomes the bytes given. Assumes nothing.
-use mathlib.Core.Path.{refl}
-use Prim.Native.Nat.{_+_, _-_, _*_, _≤_, _<_}
+-- The nodes are all within n, and their blocks become those given, in rising order. Assumes nothing.
+use mathlib.Core.Path.{refl, sym}
 use native.Mathlib.Omega.{arith}
 use denote.Ref.{now}
-use Rattle.base.proofs.Parts.{row-ends}
-use Rattle.gates.specs.Valid.{DamageAccepted}
-use Rattle.season_answers.specs.Answers.{answerOf}
-use Rattle.gates.proofs.Valid.{damage-accepted}
+use lib.Seq.{length-take-le}
+use Rattle.gates.proofs.Valid.{n-fits}
 use Rattle.season_effects.proofs.Fronts.{blocks-room}
 use Rattle.season_effects.proofs.Applied.{damage-applied}
 use borrow.Author.Needs.{needs}
 use Rattle.season_effects.proofs.applying.apply_damage.Statement.{statement}
 use Rattle.season_effects.proofs.applying.apply_damage.Tie as tie
 
-node : (c : tie.Start) → DamageAccepted (c .args .a .n) (c .args .f .node .0)
-unfolding answerOf
-node c = damage-accepted _ _ .0 (c .pre .1 .1 .1 .1)
-
-below : (c : tie.Start) → c .args .f .node .0 - 1 < c .args .a .n
-below c = omega (arith, node c .node-low, node c .node-high)
-
--- the block ends within the record
-ends : (c : tie.Start) → (c .args .f .node .0 - 1) * c .args .a .b + c .args .a .b ≤ 32768
-ends c =
-    row-ends (c .args .a .n) (c .args .f .node .0 - 1) (c .args .a .b) 32768 (below c) (blocks-room (c .args .a) (c .args .a .n) (c .pre .0) (omega arith))
+mul-length : tie.Need-mul-length
+mul-length c = n-fits (c .before .before .before .pre .0)
 
 add-end : tie.Need-add-end
 add-end c = search needs
 
-cast-start : tie.Need-cast-start
-cast-start c = search needs
+slice-relend-prefix-put-blocks : tie.Need-slice-relend-prefix-put-blocks
+slice-relend-prefix-put-blocks c = let s = c .before .before .before .before in omega (arith, s .pre .1 .0, blocks-room (s .args .a) (s .args .a .n) (s .pre .0) (omega arith))
 
-sub-start : tie.Need-sub-start
-sub-start c = omega (arith, node (c .before .before .before .before) .node-low)
+slice-aggregate-put-blocks : tie.Need-slice-aggregate-put-blocks
+slice-aggregate-put-blocks c = sym (length-take-le _ (now (c .before .before .before .before .before .args .codeword)) (slice-relend-prefix-put-blocks (c .before)))
 
-mul-start : tie.Need-mul-start
-mul-start c = omega (arith, ends (c .before .before .before .before .before))
+sub-put-blocks : tie.Need-sub-put-blocks
+sub-put-blocks c = search needs
 
-add-stop : tie.Need-add-stop
-add-stop c = omega (arith, ends (c .before .before .before .before .before .before))
+part-put-blocks-start : tie.Need-part-put-blocks-start
+part-put-blocks-start c = search needs
 
-sub-copy-block : tie.Need-sub-copy-block
-sub-copy-block c = search needs
+part-put-blocks-end : tie.Need-part-put-blocks-end
+part-put-blocks-end c = search needs
 
-part-copy-block-start : tie.Need-part-copy-block-start
-part-copy-block-start c = search needs
-
-part-copy-block-end : tie.Need-part-copy-block-end
-part-copy-block-end c = let s = c .before .before .before .before .before .before in omega (arith, ends s, s .pre .1 .0)
-
-sub-copy-block-2 : tie.Need-sub-copy-block-2
-sub-copy-block-2 c = search needs
-
-part-copy-block-start-2 : tie.Need-part-copy-block-start-2
-part-copy-block-start-2 c = search needs
-
-part-copy-block-end-2 : tie.Need-part-copy-block-end-2
-part-copy-block-end-2 c = search needs
-
-copy-block-requires : tie.Need-copy-block-requires
-copy-block-requires c κs = search needs
+put-blocks-requires : tie.Need-put-blocks-requires
+put-blocks-requires c κs = search needs
 
 same-length : tie.Need-same-length
 same-length c = search needs
 
 returns : tie.Need-returns
 returns c =
-    let s = c .before .before .before .before .before .before .before .before .before .before .before in (
+    let s = c .before .before .before .before .before .before .before .before .before in (
       refl,
-      damage-applied (s .args .a) (now (s .args .input)) (s .args .f) (now (s .args .codeword)) (s .pre .0) (s .pre .1 .0) (s .pre .1 .1 .0) (s .args .f .node .0 - 1)
-          (omega (arith, node s .node-low)) (below s) (s .pre .1 .1 .1) _ (c .before .before .copy-block .ensures),
+      damage-applied (s .args .a) (now (s .args .input)) (s .args .f) (now (s .args .codeword)) (s .pre .0) (s .pre .1 .0) (s .pre .1 .1 .0) (omega arith) (s .pre .1 .1 .1) _
+          (c .before .before .put-blocks .ensures),
     )
 
 pub apply-damage-spec : {M : Type 1} → statement M
 apply-damage-spec =
     tie.close
     (tie.spec
+    mul-length
     add-end
-    cast-start
-    sub-start
-    mul-start
-    add-stop
-    sub-copy-block
-    part-copy-block-start
-    part-copy-block-end
-    sub-copy-block-2
-    part-copy-block-start-2
-    part-copy-block-end-2
-    copy-block-requires
+    slice-relend-prefix-put-blocks
+    slice-aggregate-put-blocks
+    sub-put-blocks
+    part-put-blocks-start
+    part-put-blocks-end
+    put-blocks-requires
     same-length
     returns)

@@ -24,17 +24,17 @@ add-set-at c = search needs
 set-at-requires-3 : tie.Need-set-at-requires-3
 set-at-requires-3 c κs = omega (arith, ap fixed (c .before .match .keys2), c .before .before .before .pre)
 
-shared-slice-read-t15 : tie.Need-shared-slice-read-t15
-shared-slice-read-t15 c = omega (arith, ap fixed (c .before .match .keys3), c .before .before .before .pre)
-
-add-t17 : tie.Need-add-t17
-add-t17 c = search needs
-
 set-at-requires-4 : tie.Need-set-at-requires-4
-set-at-requires-4 c κs = omega (arith, ap fixed (c .match .keys4), c .before .before .pre)
+set-at-requires-4 c κs = omega (arith, ap fixed (c .match .keys3), c .before .before .pre)
+
+add-t15 : tie.Need-add-t15
+add-t15 c = search needs
+
+set-at-requires-5 : tie.Need-set-at-requires-5
+set-at-requires-5 c κs = omega (arith, ap fixed (c .match .keys4), c .before .before .pre)
 
 reconfigure-at-requires : tie.Need-reconfigure-at-requires
-reconfigure-at-requires c κs = omega (arith, last-kind {A = ℕ} _ 4 8 1 4 16 (c .match .rest), c .before .before .pre)
+reconfigure-at-requires c κs = omega (arith, last-kind {A = ℕ} _ 4 8 4 4 16 (c .match .rest), c .before .before .pre)
 
 returns : tie.Need-returns
 returns c = λ a h. update-is a _ _ _ _ _ (c .before .match .keys1) h (c .set-at .ensures)
@@ -43,10 +43,10 @@ returns-2 : tie.Need-returns-2
 returns-2 c = λ a h. repair-is a _ _ _ _ _ (c .before .before .match .keys2) (c .before .set-at2 .ensures) (c .set-at3 .ensures)
 
 returns-3 : tie.Need-returns-3
-returns-3 c = λ a h. damage-is a _ _ _ _ (c .before .match .keys3) h
+returns-3 c = λ a h. damage-is a _ _ _ _ _ (c .before .match .keys3) h (c .set-at4 .ensures)
 
 returns-4 : tie.Need-returns-4
-returns-4 c = λ a h. decode-is a _ _ _ _ (c .before .match .keys4) (c .set-at4 .ensures)
+returns-4 c = λ a h. decode-is a _ _ _ _ (c .before .match .keys4) (c .set-at5 .ensures)
 
 returns-5 : tie.Need-returns-5
 returns-5 c = λ a h. reconfigure-is a _ _ _ _ _ (c .before .match .rest) h (c .reconfigure-at .ensures a)
@@ -60,9 +60,9 @@ event-at-spec =
     set-at-requires-2
     add-set-at
     set-at-requires-3
-    shared-slice-read-t15
-    add-t17
     set-at-requires-4
+    add-t15
+    set-at-requires-5
     reconfigure-at-requires
     returns
     returns-2

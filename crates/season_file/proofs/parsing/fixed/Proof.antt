@@ -18,7 +18,7 @@ returns-4 : tie.Need-returns-4
 returns-4 c = sym (ap fixed (c .match .keys4))
 
 returns-5 : tie.Need-returns-5
-returns-5 c = sym (last-kind _ 4 8 1 4 16 (c .match .rest))
+returns-5 c = sym (last-kind _ 4 8 4 4 16 (c .match .rest))
 
 pub fixed-spec : {M : Type 1} → statement M
 fixed-spec = tie.close (tie.spec returns returns-2 returns-3 returns-4 returns-5)
