@@ -2,3 +2,4 @@ mod Capped
 mod Items
 mod Openings
 mod ByKind
+pub mod Lengths
