@@ -163,6 +163,17 @@ pub fn repair_gate(a: Params, codeword: usize, serials: usize, from: NodeSet, lo
     )
 }
 
+// Question 10 alone.
+fn node_gate(n: usize, node: Node) -> u32
+    ensures { λ r. ⌜ r ≡ firstNo (nodeAsked n (node .0) ∷ []) ⌝ }
+{
+    let number = node.0 as usize;
+    if (number < 1) | (n < number) {
+        return 10;
+    }
+    0
+}
+
 // View, with the record's length and the trap number.
 pub fn view_gate(a: Params, codeword: usize, node: Node) -> u32
     ensures { λ r. ⌜ r ≡ viewGate a codeword (node .0) ⌝ }
@@ -210,17 +221,6 @@ pub fn reconfigure_gate(
         (from.size() == a.r) & (to.size() == t.w),
         true,
     )
-}
-
-// Question 10 alone.
-fn node_gate(n: usize, node: Node) -> u32
-    ensures { λ r. ⌜ r ≡ firstNo (nodeAsked n (node .0) ∷ []) ⌝ }
-{
-    let number = node.0 as usize;
-    if (number < 1) | (n < number) {
-        return 10;
-    }
-    0
 }
 
 // A damage event, with the set of its nodes: question 7 alone.
