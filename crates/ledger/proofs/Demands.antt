@@ -139,7 +139,7 @@ demand-2-back a message slack old numbers codeword serials left buffer out from 
 
 -- 3. For every list of History: it opens with an accepted set-up; each accepted change is a send of the change that its serial had before, or begins one, under a
 -- higher serial and with none open; accepted rebuilds and rearrangements read undamaged nodes, between closed changes; damage puts whichever bytes into the nodes of
--- whichever set, one or several together (document 02, 2026-04). (Document 02 asks two things more, which are not
+-- whichever set within n, one or several together (document 02, 2026-04). (Document 02 asks two things more, which are not
 -- needed: that a closed change is not sent again once anything else was written, and that readings within the list come between closed changes.) And for every
 -- accepted reading after it through undamaged nodes, between closed changes (Reading): the bytes read are the ledger's, in which all sends under one serial count
 -- once, ..

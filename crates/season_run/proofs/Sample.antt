@@ -116,7 +116,7 @@ sample-only s = output-unique s sample
 
 -- ---- boxes of cards, for the same arrangement, message and slack
 
--- 03 0000000C AA BB: nodes 3 and 4, of which there is no fourth. 03 00000000: an empty box. 03 000000FF: 8 nodes, but 7 bytes.
+-- 03 0000000C AA BB: nodes 3 and 4, but there are three. 03 00000000: an empty box. 03 000000FF: 8 nodes, but 7 bytes.
 abbrev pub boxes : List ℕ
 boxes =
     0x00 ∷ 0x05 ∷ 0x00 ∷ 0x01 ∷ 0x00 ∷ 0x02 ∷ 0x00 ∷ 0x02 ∷ 0x00 ∷ 0x03 ∷ 0x00 ∷ 0x01 ∷
@@ -135,10 +135,10 @@ boxes-output =
 abbrev box : ℕ → ℕ → ℕ → ℕ → Found
 box nodes at count after = record { event = Damage (record { nodes = record { 0 = nodes }; blocks = record { at = at; count = count } }); next = after }
 
-pub boxes-run : Season boxes boxes-output
+pub boxes-sample : Season boxes boxes-output
 unfolding openingOf itemAt numberAt choiceAt lineOf decimal digitsBefore messageField answerOf encodeGate damageGate firstNo
     slackParts has size ones within count cell blocks tabulate block point evaluate sum add mul pow damagedWord
-boxes-run =
+boxes-sample =
     season
     (opened (record { params = small; message = record { at = 14; count = 1 }; slack = record { at = 17; count = 1 }; events = 3; at = 20 })
     (0x06 ∷ 0x0a ∷ 0x0c ∷ []) (0 ∷ 0 ∷ 0 ∷ []) refl (encode-by _ _ _ _ _ tt _ _ refl refl)) (

@@ -266,14 +266,16 @@ fn a_box_goes_by_the_arrangement_in_force() {
 /// (1,2,4,5): a box with a damaged trap and an undamaged one, and its rebuild.
 #[test]
 fn damage_over_damage_and_a_rebuild() {
-    let opening = "0005 0001 0002 0004 0005 0001, 0001 07, 0001 01, 0009";
+    let opening = "0005 0001 0002 0004 0005 0001, 0001 07, 0001 01, 000A";
     let boxes = "03 00000002 EE, 03 0000000A AA BB";
+    // AA / 02 = 55 = 3B + 02·37 and BB / 04 = E7 = 3B + 04·37
+    let inside = "04 0000000A";
     let around = "04 00000005, 04 00000014";
     let rebuild = "02 00000011 0000000A";
     let through = "04 00000003, 04 0000000A, 04 00000018, 04 0000000C";
     assert_eq!(
-        run_hex(&format!("{opening} {boxes} {around} {rebuild} {through}")),
-        "0 0 0\n1 3 0\n2 3 0\n3 4 0 07\n4 4 0 07\n5 2 0\n6 4 0 07\n7 4 0 07\n8 4 0 07\n9 4 0 07\n"
+        run_hex(&format!("{opening} {boxes} {inside} {around} {rebuild} {through}")),
+        "0 0 0\n1 3 0\n2 3 0\n3 4 0 3b\n4 4 0 07\n5 4 0 07\n6 2 0\n7 4 0 07\n8 4 0 07\n9 4 0 07\n10 4 0 07\n"
     );
 }
 

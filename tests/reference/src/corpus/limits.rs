@@ -36,8 +36,8 @@ fn fill(rng: &mut Rng, draft: &mut Draft, length: usize) {
         left -= 5;
     }
     for _ in 0..left / one {
-        let trap = rng.pick(&[1, 2, 4, 4, 8]);
-        draft.events.push(damage(trap, &rng.bytes(b)));
+        let traps = rng.pick(&[1, 2, 4, 4, 8]);
+        draft.events.push(damage(traps, &rng.bytes(b)));
     }
 }
 

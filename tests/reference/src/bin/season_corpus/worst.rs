@@ -22,8 +22,8 @@ fn draft() -> Draft {
         events: Vec::new(),
     };
     for trap in 1..=DAMAGES {
-        let second = 1 << (2 * trap - 1);
-        draft.events.push(damage(second, &rng.bytes(1024)));
+        let traps = 1 << (2 * trap - 1);
+        draft.events.push(damage(traps, &rng.bytes(1024)));
         let readings = vec![reading(u32::MAX); READINGS_AFTER_EACH];
         draft.events.extend(readings);
     }
