@@ -1,2 +1,3 @@
 mod Turns
 mod Comparing
+pub mod Settled

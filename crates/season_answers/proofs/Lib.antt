@@ -1,2 +1,3 @@
 mod Gated
 pub mod Records
+pub mod Numbers

@@ -1,4 +1,4 @@
--- The answer to an event is the number of the list's event, where its block was read in full, the record in force has n·b bytes and there are n serials. By cases on
+-- The answer to an event is the number of the list's event, where its blocks were read in full, the record in force has n·b bytes and there are n serials. By cases on
 -- its kind. Assumes nothing.
 use mathlib.Core.Path.{_≡_, refl, sym, _∙_, subst}
 use mathlib.Core.List.{List}

@@ -40,7 +40,7 @@ module _ (a : Params) (input : ℕ) (e : Event) (buffer serials room : ℕ) wher
   pub not-ready : (Ready a input e buffer serials room → ⊥) → Decided (Ready a input e buffer serials room) false
   not-ready = decided-false _
 
-  -- all else is in place: the event's block decides
+  -- all else is in place: the event's blocks decide
   pub ready-by : (t : Bool) (e′ : Event) → e ≡ e′ → Valid a → buffer ≡ 32768 → serials ≡ 32 → room ≡ 32768 → Decided (InFull a input e′) t
       → Decided (Ready a input e buffer serials room) t
   ready-by t e′ is v hb hs hr d =

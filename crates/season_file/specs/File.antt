@@ -1,4 +1,4 @@
--- The bytes of a season file (document 01, "The season program"). A byte that the input does not have counts as 00 here; the definitions ask for the
+-- The bytes of a season file (document 01, "The season program"; document 02, 2026-04). A byte that the input does not have counts as 00 here; the definitions ask for the
 -- length before they use it. Assumes nothing.
 use mathlib.Core.Bool.{Bool, cond, _||_}
 use mathlib.Core.List.{List}

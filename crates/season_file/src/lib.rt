@@ -1,4 +1,4 @@
-// The season file of document 01 ("The season program"): what its bytes say. Blocks stay in the lent input: an event tells where they begin
+// The season file of document 01 ("The season program"), with damage as in document 02, 2026-04: what its bytes say. Blocks stay in the lent input: an event tells where they begin
 // and how many bytes they have.
 pub mod parsing;
 

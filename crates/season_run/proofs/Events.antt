@@ -1,4 +1,4 @@
--- What the file's definitions say of an event that was found: its block stands within the input and has its length, its bytes are bytes and its sets have 32 bits.
+-- What the file's definitions say of an event that was found: its blocks stand within the input and have their length, its bytes are bytes and its sets have 32 bits.
 -- By cases on its kind. Assumes nothing.
 use mathlib.Core.Path.{_≡_, refl, subst}
 use mathlib.Core.Bool.{Bool, true, false, cond}

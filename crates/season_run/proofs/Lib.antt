@@ -3,4 +3,5 @@ pub mod Output
 pub mod LedgerRun
 pub mod Program
 pub mod Sample
+pub mod SampleLedger
 mod Turns

@@ -149,3 +149,6 @@ boxes-sample =
     (tried 1 (box 0b0000 32 0 32) _ (stands (0x06 ∷ 0x0a ∷ 0x0c ∷ []) (0 ∷ 0 ∷ 0 ∷ [])) refl refl
     (record { message = []; prints = refl; line-is = refl; step = damaged refl })) (
     turn (faulty 0 (record { kind = 3; number = 21 }) refl refl) done)))
+
+pub boxes-only : {other : List ℕ} → Season boxes other → other ≡ boxes-output
+boxes-only s = output-unique s boxes-sample

@@ -1,4 +1,4 @@
--- Each test decides; of the event its block does. Assumes nothing.
+-- Each test decides; of the event its blocks do. Assumes nothing.
 use mathlib.Core.Path.{_≡_, subst}
 use mathlib.Core.Bool.{Bool}
 use Rattle.base.specs.Decided.{Decided}
@@ -22,7 +22,7 @@ module _ (c : tie.Else4) where
   valid : Valid (start .args .a)
   valid = some-record _ _ (c .before .record-length .ensures) (c .if4 .left)
 
-  -- the event's block decides
+  -- the event's blocks decide
   decided : (t : Bool) (e : Event) → start .args .e ≡ e → Decided (InFull (start .args .a) (start .args .input) e) t
       → Decided (Ready (start .args .a) (start .args .input) (start .args .e) (start .args .codeword) (start .args .serials) (start .args .room)) t
   decided t e is d = ready-by _ _ _ _ _ _ t e is valid (c .before .before .before .before .if1 .left) (c .before .before .before .if2 .left) (c .before .before .if3 .left) d
