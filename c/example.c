@@ -59,12 +59,14 @@ int main(void) {
     answer = jirvents_reconfigure(k, r, w, n, b, 2, 2, 3, 3, card, 3, serials, 3, 6, 7, both, 2, next, 3, next_serials, 3);
     expect("rearranged to (2,2,3,3): 00 06 06", answer == 0 && !memcmp(next, "\x00\x06\x06", 3) && are(next_serials, 1, 1, 1));
 
-    const uint8_t two[] = {0x02}, singular[] = {0, 1, 0, 1};
+    const uint8_t two[] = {0x02}, zeros_first[] = {0, 1, 0, 1}, equal[] = {1, 1, 1, 1};
     uint8_t inverse[4] = {0};
     size_t column = 0;
     answer = jirvents_invert(1, two, 1, inverse, 1, &column);
     expect("the inverse of 02 is 8E", answer == 0 && inverse[0] == 0x8E);
-    answer = jirvents_invert(2, singular, 4, inverse, 4, &column);
-    expect("00 01 / 00 01 has none: column 1", answer == JIRVENTS_SINGULAR && column == 1);
+    answer = jirvents_invert(2, zeros_first, 4, inverse, 4, &column);
+    expect("00 01 / 00 01 has none: column 1 is 00", answer == JIRVENTS_SINGULAR && column == 1);
+    answer = jirvents_invert(2, equal, 4, inverse, 4, &column);
+    expect("01 01 / 01 01 has none: column 2 is column 1", answer == JIRVENTS_SINGULAR && column == 2);
     return failed;
 }

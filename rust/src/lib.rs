@@ -143,7 +143,8 @@ pub enum InvertError {
     /// Question 16 or 6 was answered no.
     Refused(Refusal),
     /// The matrix has no inverse, question 15: this column, counted from 1, is
-    /// a sum of multiples of the others.
+    /// the first that is a sum of multiples of those before it. A column of 00 is
+    /// one.
     Singular {
         /// The column.
         column: usize,
@@ -167,10 +168,8 @@ impl fmt::Display for InvertError {
         match self {
             InvertError::Refused(_) => Ok(()),
             InvertError::Singular { column } => {
-                write!(
-                    f,
-                    " No: column {column} is a sum of multiples of the others"
-                )
+                let what = "is the first that is a sum of multiples of those before it";
+                write!(f, " No: column {column} {what}")
             }
         }
     }
@@ -631,6 +630,7 @@ mod tests {
         assert_eq!(inverted(2, [1, 0, 0, 1]), (0, 99));
         assert_eq!(inverted(2, [0, 1, 0, 1]), (15, 1));
         assert_eq!(inverted(2, [1, 0, 1, 0]), (15, 2));
+        assert_eq!(inverted(2, [1, 1, 1, 1]), (15, 2));
         assert_eq!(inverted(3, [1, 0, 0, 1]), (6, 99));
         assert_eq!(inverted(33, [1, 0, 0, 1]), (16, 99));
     }

@@ -1,10 +1,12 @@
--- The contracts of check, view and the inverse settle the answer and what is written beside it; only the column of 15 is left free. Assumes nothing.
+-- The contracts of check, view and the inverse settle the answer and what is written beside it. Assumes nothing.
 use mathlib.Core.Path.{_≡_, refl, sym, ap, _∙_}
 use mathlib.Core.Logic.{⊎-elim}
 use mathlib.Core.List.{List}
 use Prim.Native.Nat.{ℕ}
 use Rattle.base.proofs.Cases.{eq-or}
 use Rattle.params.specs.declared.Params.{Params}
+use Rattle.matrix.specs.Invert.{columnNumber}
+use Rattle.matrix.specs.Invert as matrix
 use Rattle.matrix.proofs.Laws.{invert-once}
 use Rattle.code.specs.Calls.{number, nodeNumber}
 use Rattle.code.proofs.Determined.{check-once}
@@ -32,8 +34,16 @@ view-gave-once a codeword i old answer answer′ new new′ t t′ =
     (answers, gave-once answers refl (t .gave) (t′ .gave))
 
 pub invert-gave-once : (s : ℕ) (m oldOut newOut newOut′ : List ℕ) (old answer answer′ new new′ : ℕ) → InvertGave s m oldOut newOut old answer new
-    → InvertGave s m oldOut newOut′ old answer′ new′ → (answer ≡ answer′) × (newOut ≡ newOut′) × ((answer ≡ 15 → ⊥) → new ≡ new′)
-invert-gave-once s m oldOut newOut newOut′ old answer answer′ new new′ t t′ =
-    let once = invert-once s m oldOut (t .inversion) (t′ .inversion) newOut newOut′ (t .post) (t′ .post) in
-    let answers = t .answers ∙ once .0 ∙ sym (t′ .answers) in
-    (answers, once .1, λ ne. t .none ne ∙ sym (t′ .none (λ z. ne (answers ∙ z))))
+    → InvertGave s m oldOut newOut′ old answer′ new′ → (answer ≡ answer′) × (newOut ≡ newOut′) × (new ≡ new′)
+invert-gave-once s m oldOut newOut newOut′ old answer answer′ new new′ t t′ = (
+  answers,
+  once .1,
+  ⊎-elim (λ e. t .column e ∙ ap columnNumber (once .0) ∙ sym (t′ .column (sym answers ∙ e)))
+      (λ ne. t .none ne ∙ sym (t′ .none (λ e. ne (answers ∙ e)))) (eq-or answer 15),
+)
+  where
+    once : (t .inversion ≡ t′ .inversion) × (newOut ≡ newOut′)
+    once = invert-once s m oldOut (t .inversion) (t′ .inversion) newOut newOut′ (t .post) (t′ .post)
+
+    answers : answer ≡ answer′
+    answers = t .answers ∙ ap matrix.number (once .0) ∙ sym (t′ .answers)

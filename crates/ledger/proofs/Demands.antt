@@ -9,9 +9,10 @@ use Prim.Native.Nat.{ℕ, suc, _<_}
 use lib.ListN.{length, getD}
 use Rattle.base.specs.Gate.{firstNo}
 use Rattle.field.specs.Field.{Bytes}
-use Rattle.matrix.specs.Invert.{InvertPost, sideAsked, lengthsAsked, inverseAsked, number as invertNumber}
+use Rattle.matrix.specs.Matrix.{FirstDependent}
+use Rattle.matrix.specs.Invert.{InvertPost, sideAsked, lengthsAsked, inverseAsked, number as invertNumber, columnNumber}
 use Rattle.matrix.specs.declared.Inversion.{Inversion}
-use Rattle.matrix.proofs.Laws.{invert-once}
+use Rattle.matrix.proofs.Laws.{invert-once, column-exactly}
 use Rattle.matrix.proofs.Existence.{invert-met}
 use Rattle.params.specs.Nodes.{has}
 use Rattle.params.specs.declared.Params.{Params}
@@ -83,7 +84,7 @@ demand-1 =
 
 -- 2. "Every block, view, reading, difference, check, .. rebuilt block and rearranged record is what .. document 01 fixes": a call's answer, every byte of its
 -- buffer and every serial are settled by its post-condition. Some answer and lists meet it, where the slices lent hold bytes (as by their type they do), and no
--- other does; but which dependent column an inverse names is left free.
+-- other does. Of an inverse the answer has the column of 15 in it (document 02, 2026-05).
 abbrev pub Settled : Type 0 → (ℕ → List ℕ → Type 0) → Type 0
 Settled BytesLent P = (BytesLent → Met P) × Once P
 
@@ -105,7 +106,7 @@ pub record Demand2 : Type 0 where
       × ((part part′ : List ℕ) → ViewPost a codeword node part → ViewPost a codeword node part′ → part ≡ part′)
   pub inverse : (s : ℕ) (m old : List ℕ) → (Bytes m → (answer : Inversion) × (new : List ℕ) × InvertPost s m old answer new)
       × ((answer answer′ : Inversion) (new new′ : List ℕ) → InvertPost s m old answer new → InvertPost s m old answer′ new′
-      → (invertNumber answer ≡ invertNumber answer′) × (new ≡ new′))
+      → (answer ≡ answer′) × (new ≡ new′))
 
 pub demand-2 : Demand2
 demand-2 =
@@ -124,6 +125,13 @@ demand-2 =
       view = λ a codeword node. (view-met a codeword node, view-once a codeword node);
       inverse = λ s m old. (invert-met s m old, invert-once s m old);
     }
+
+-- "The column is now the first that is a sum of multiples of the columns before it (a column of 00 counts)" (document 02, 2026-05). For a side and slices that are
+-- right: 15 comes with column c exactly where c is such a column and none before it is (FirstDependent). So all who test one matrix are told one column, whatever
+-- their buffers hold.
+pub demand-2-column : (s : ℕ) (m old new : List ℕ) (answer : Inversion) (c : ℕ) → firstNo (sideAsked s ∷ lengthsAsked s m old ∷ []) ≡ 0
+    → InvertPost s m old answer new → ((invertNumber answer ≡ 15) × (columnNumber answer ≡ c)) ↔ FirstDependent s m c
+demand-2-column = column-exactly
 
 -- From message to blocks, and from any r blocks back: an accepted reading through r nodes, the q lowest of which hold their blocks of an accepted set-up
 -- (SameAt), gives its message, whatever the others hold, those of R too.

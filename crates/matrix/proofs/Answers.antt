@@ -8,7 +8,7 @@ use lib.Dec.{T, leb, eqb}
 use lib.ListN.{length}
 use borrow.Author.Tests.{le-leb}
 use Rattle.base.specs.Gate.{Question, firstNo}
-use Rattle.matrix.specs.Matrix.{IsInverse, Dependent}
+use Rattle.matrix.specs.Matrix.{IsInverse, FirstDependent}
 use Rattle.matrix.specs.Invert.{sideAsked, lengthsAsked, inverseAsked, InvertPost}
 use Rattle.matrix.specs.declared.Inversion.the-variants.{Inverted, Singular as SingularAt, Refused}
 use Rattle.matrix.proofs.Laws.{Open, gate-open, not-singular, dependent-singular}
@@ -52,12 +52,12 @@ module _ (s : ℕ) (m old : List ℕ) (o : Open s m old) where
         proper = tt;
       }
 
-  pub answered-singular : (c : ℕ) → Dependent s m c → InvertPost s m old (SingularAt c) old
+  pub answered-singular : (c : ℕ) → FirstDependent s m c → InvertPost s m old (SingularAt c) old
   unfolding firstNo
   answered-singular c d =
       record {
         hasInverse = false;
-        asked = λ none. (λ e. dependent-singular s m c d, λ x. refl);
+        asked = λ none. (λ e. dependent-singular s m (d .place) (d .within) (d .here), λ x. refl);
         first = sym (gate-open s m old (inverseAsked false ∷ []) o);
         served = λ e. absurd (omega arith);
         refused = λ ne. refl;

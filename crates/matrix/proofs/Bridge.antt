@@ -1,5 +1,6 @@
 -- From the working matrix to the matrix and its inverse: for z = x ++ y the start [m | 1] takes z to zero exactly where m takes x to y, and the end
--- [1 | n] exactly where n takes y to x. A column without a pivot is the sum of those before it, each times what stands above the missing pivot. Assumes nothing.
+-- [1 | n] exactly where n takes y to x. A column without a pivot is the sum of those before it, each times what stands above the missing pivot; none of these, which
+-- have become the identity's, is such a sum. Assumes nothing.
 use mathlib.Core.Path.{_≡_, sym, ap, ap₂, _∙_, subst}
 use mathlib.Core.Bool.{Bool, cond}
 use mathlib.Core.List.{List, _++_}
@@ -14,18 +15,18 @@ use lib.Seq.{getD-append-add}
 use borrow.Author.Tests.{lt-ltb, le-ltb}
 use Rattle.base.specs.Seq.{tabulate}
 use Rattle.base.proofs.Cases.{lt-or}
-use Rattle.base.proofs.Seq.{getD-tabulate}
+use Rattle.base.proofs.Seq.{getD-tabulate, getD-tabulate-past}
 use Rattle.field.specs.Field.{IsByte, Bytes, add, mul}
 use Rattle.field.specs.FiniteSum.{sum}
 use Rattle.field.proofs.Addition.{add-self, add-zero-left, add-zero-right, add-zero-eq, add-eq-zero}
-use Rattle.field.proofs.Multiplication.{mul-add-right, mul-zero-right}
+use Rattle.field.proofs.Multiplication.{mul-add-right}
 use Rattle.field.proofs.FiniteSum.{sum-ext, sum-add, sum-split}
-use Rattle.matrix.specs.Matrix.{Vector, entry, apply, column, IsInverse, Dependent}
+use Rattle.matrix.specs.Matrix.{Vector, entry, apply, column, IsInverse, Dependent, FirstDependent}
 use Rattle.matrix.specs.Product.{unit}
 use Rattle.matrix.specs.Working.{grid, Loaded, Kills, Units, Reduced, StuckAt}
-use Rattle.matrix.proofs.Identity.{unit-other, unit-sum, sum-unit}
+use Rattle.matrix.proofs.Identity.{unit-other, unit-sum, sum-unit, unit-sum-before}
 use Rattle.matrix.proofs.RowOperations.{against}
-use Rattle.matrix.proofs.Laws.{vector-tabulate, length-column, column-at, apply-entry, apply-tabulate, apply-is, apply-at}
+use Rattle.matrix.proofs.Laws.{Relation, relation, vector-tabulate, length-column, column-at, apply-entry, apply-tabulate, apply-is, apply-at}
 
 loaded-against : (s : ℕ) (m w : List ℕ) → Loaded s m w → (z : ℕ → ℕ) (i : ℕ) → i < s → IsByte (z (s + i))
     → against s w i z ≡ add (sum s (λ k. mul (entry s m i k) (z k))) (z (s + i))
@@ -120,14 +121,7 @@ module _ (s j : ℕ) (m start end : List ℕ) (loaded : Loaded s m start) (stuck
 
   above-against : (i : ℕ) → i < s → against s end i above ≡ grid end i j
   above-against i hi =
-      sum-ext (s + s) (λ k. mul (grid end i k) (above k)) (λ k. mul (unit i k) (above k))
-      (λ k hk.
-      ⊎-elim (λ h. ap (λ (x : ℕ). mul x (above k)) (stuck .reduced .units i k hi h))
-      (λ h.
-      ap (mul (grid end i k)) (above-high k h) ∙ mul-zero-right (grid end i k) ∙ sym (mul-zero-right (unit i k))
-      ∙ ap (mul (unit i k)) (sym (above-high k h)))
-      (lt-or k j))
-      ∙ unit-sum (s + s) i above (omega arith) (above-byte i)
+      unit-sum-before (s + s) j i (grid end i) above (λ k low. stuck .reduced .units i k hi low) (λ k hk. above-high k) (omega arith) (above-byte i)
       ∙ above-row i hi
 
   killed : Kills s start kernel
@@ -154,19 +148,36 @@ module _ (s j : ℕ) (m start end : List ℕ) (loaded : Loaded s m start) (stuck
   apply-given f v e h =
       apply-is s m (tabulate s f) v e (λ i hi. sym (apply-entry s m (tabulate s f) i hi) ∙ apply-tabulate s m f i hi ∙ h i hi)
 
-  pub dependent : Dependent s m (j + 1)
+  here : Dependent s m j
   unfolding entry
-  dependent =
+  here =
       record {
-        place = j;
-        counted = add-one j;
-        within = stuck .within;
         multiples = tabulate s above;
         sized = vector-tabulate s above above-byte;
-        others = getD-tabulate s above j (stuck .within) ∙ above-high j (omega arith);
+        before = λ k high. ⊎-elim (λ hk. getD-tabulate s above k hk ∙ above-high k high) (getD-tabulate-past s above k) (lt-or k s);
         combined =
             apply-given above (column s m j) (length-column s m j)
             (λ i hi.
             add-zero-eq _ _ (sym (split-kernel s (entry s m i) (stuck .within) (hm (i * s + j))) ∙ kernel-row i hi)
             ∙ sym (column-at s m j i hi));
       }
+
+  -- multiples for an earlier column would make a vector that is taken to zero; but row i of the end takes it to its entry i, which is 1
+  none-before : (i : ℕ) → i < j → Dependent s m i → ⊥
+  none-before i low d =
+      let hi : i < s = omega (arith, stuck .within) in
+      let r = relation s m i hi d in
+      let kept : against s end i (λ k. getD (r .vector) k 0) ≡ getD (r .vector) i 0 =
+      unit-sum-before (s + s) j i (grid end i) (λ k. getD (r .vector) k 0) (λ k hk. stuck .reduced .units i k hi hk) (λ k hk high. r .after k (omega arith))
+      (omega arith) (r .sized .bytes i) in
+      let none : against s end i (λ k. getD (r .vector) k 0) ≡ 0 = stuck .reduced .same (λ k. getD (r .vector) k 0) .0 (start-kills r) i hi in
+      omega (arith, r .own)
+    where
+      start-kills : (r : Relation s m i) → Kills s start (λ k. getD (r .vector) k 0)
+      start-kills r h hh =
+          let past = r .after (s + h) (omega (arith, stuck .within)) in
+          loaded-against s m start loaded (λ k. getD (r .vector) k 0) h hh (subst IsByte (sym past) (zero-lt-suc 255))
+          ∙ ap₂ add (r .taken h hh) past ∙ add-self 0
+
+  pub dependent : FirstDependent s m (j + 1)
+  dependent = record { place = j; counted = add-one j; within = stuck .within; here = here; none-before = none-before }

@@ -1,6 +1,6 @@
--- A square matrix of bytes, of any side, has an inverse or a dependent column: so one that takes no vector but 00 to 00 has an inverse, and `invert` has an answer
--- to everything. Induction on the columns that are not yet the identity's. Let d be the first of them, column t. Where d is zero from row t on, it is the sum of the
--- columns before it, each times d's entry. Else a linear form f that is 0 on the columns before, not 0 on e, column t of the identity, and 1 on d makes a map
+-- A square matrix of bytes, of any side, has an inverse or a first dependent column: so one that takes no vector but 00 to 00 has an inverse, and `invert` has an
+-- answer to everything. Induction on the columns that are not yet the identity's. Let d be the first of them, column t. Where d is zero from row t on, it is the sum of the
+-- columns before it, each times d's entry, and none of these is such a sum. Else a linear form f that is 0 on the columns before, not 0 on e, column t of the identity, and 1 on d makes a map
 -- x ↦ x + f(x)·(d + e): it keeps the columns before, takes d to e, and is one to one, since f takes its value to f(e)·f(x). Assumes nothing.
 use mathlib.Core.Path.{_≡_, refl, sym, ap, ap₂, _∙_, subst}
 use mathlib.Core.List.{List}
@@ -9,7 +9,7 @@ use Prim.Native.Nat.{ℕ, zero, suc, _+_, _*_, _-_, _≤_, _<_}
 use native.Mathlib.Nat.{not-suc-le-zero}
 use native.Mathlib.Omega.{arith}
 use native.Mathlib.Decide.{ℕ-discrete}
-use lib.ListN.{length, getD}
+use lib.ListN.{length, getD, List·getD-eq-default}
 use borrow.Author.Tests.{le-leb, lt-leb, eq-eqb, ne-eqb}
 use Rattle.base.specs.Seq.{cell, blocks}
 use Rattle.base.proofs.Below.{all-below}
@@ -21,12 +21,12 @@ use Rattle.field.proofs.Addition.{add-assoc, add-byte, add-comm, add-cancel, ad
 use Rattle.field.proofs.Multiplication.{mul-add-left, mul-add-right, mul-assoc, mul-byte, mul-comm, mul-one-left, mul-one-right, mul-zero-left, mul-zero-right}
 use Rattle.field.proofs.Exponents.{invertible, mul-cancel}
 use Rattle.field.proofs.FiniteSum.{sum-add, sum-byte, sum-ext, sum-mul, mul-sum}
-use Rattle.matrix.specs.Matrix.{Vector, entry, apply, column, IsInverse, Singular, Dependent}
+use Rattle.matrix.specs.Matrix.{Vector, entry, apply, column, IsInverse, Singular, Dependent, FirstDependent}
 use Rattle.matrix.specs.Invert.{InvertPost}
 use Rattle.matrix.specs.Product.{unit, identity, product}
 use Rattle.matrix.specs.declared.Inversion.{Inversion}
 use Rattle.matrix.specs.declared.Inversion.the-variants.{Inverted, Singular as SingularAt, Refused}
-use Rattle.matrix.proofs.Identity.{unit-same, unit-other, unit-byte, unit-sum, sum-unit}
+use Rattle.matrix.proofs.Identity.{unit-same, unit-other, unit-byte, unit-sum, sum-unit, unit-sum-before}
 use Rattle.matrix.proofs.Laws as L
 use Rattle.matrix.proofs.Answers.{refused-side, refused-lengths, answered-inverse, answered-singular}
 
@@ -191,9 +191,9 @@ module _ (s t p : ℕ) (d : ℕ → ℕ) (bytes : (k : ℕ) → IsByte (d k)) (l
 abbrev First : ℕ → ℕ → List ℕ → Type 0
 First s t m = (i k : ℕ) → i < s → k < t → entry s m i k ≡ unit i k
 
--- an inverse, or a column that is a sum of multiples of the others; not both, by `not-singular` and `dependent-singular`
+-- an inverse, or a first column that is a sum of multiples of those before it; not both, by `not-singular` and `dependent-singular`
 abbrev pub Alternative : ℕ → List ℕ → Type 0
-Alternative s m = ((n : List ℕ) × IsInverse s m n) ⊎ ((c : ℕ) × Dependent s m c)
+Alternative s m = ((n : List ℕ) × IsInverse s m n) ⊎ ((c : ℕ) × FirstDependent s m c)
 
 module _ (s t : ℕ) (m : List ℕ) (hm : Bytes m) (first : First s t m) where
   d : ℕ → ℕ
@@ -203,26 +203,20 @@ module _ (s t : ℕ) (m : List ℕ) (hm : Bytes m) (first : First s t m) where
   entry-byte i k = L.entry-byte s m i k hm
 
   -- a column that is zero from row t on
-  no-pivot : t < s → ((k : ℕ) → k < s → t ≤ k → d k ≡ 0) → Dependent s m (suc t)
+  no-pivot : ((k : ℕ) → k < s → t ≤ k → d k ≡ 0) → Dependent s m t
   unfolding d
-  no-pivot ht none =
+  no-pivot none =
       record {
-        place = t;
-        counted = refl;
-        within = ht;
         multiples = column s m t;
         sized = L.column-vector s m t hm;
-        others = L.column-at s m t t ht ∙ none t ht (omega arith);
+        before = λ k high. ⊎-elim (λ hk. zeros k hk high) (λ past. List·getD-eq-default (column s m t) 0 (omega (arith, L.length-column s m t))) (lt-or k s);
         combined =
             L.apply-is s m (column s m t) (column s m t) (L.length-column s m t)
-            (λ i hi.
-            sum-ext s (λ k. mul (entry s m i k) (getD (column s m t) k 0)) (λ k. mul (unit i k) (d k))
-            (λ k hk. ap (mul (entry s m i k)) (L.column-at s m t k hk) ∙ ⊎-elim (λ low. ap (λ (x : ℕ). mul x (d k)) (first i k hi low))
-            (λ high. ap (mul (entry s m i k)) (none k hk high) ∙ mul-zero-right (entry s m i k)
-            ∙ sym (ap (mul (unit i k)) (none k hk high) ∙ mul-zero-right (unit i k)))
-            (lt-or k t))
-            ∙ unit-sum s i d hi (entry-byte i t) ∙ sym (L.column-at s m t i hi));
+            (λ i hi. unit-sum-before s t i (entry s m i) (λ k. getD (column s m t) k 0) (λ k low. first i k hi low) zeros hi (L.column-vector s m t hm .bytes i));
       }
+    where
+      zeros : (k : ℕ) → k < s → t ≤ k → getD (column s m t) k 0 ≡ 0
+      zeros k hk high = L.column-at s m t k hk ∙ none k hk high
 
   module _ (f : ℕ → ℕ) (h : Form s t d f) where
     next : List ℕ
@@ -275,35 +269,47 @@ module _ (s t : ℕ) (m : List ℕ) (hm : Bytes m) (first : First s t m) where
               );
         }
 
-    back-dependent : (c : ℕ) → Dependent s next c → Dependent s m c
+    back-dependent : (j : ℕ) → j < s → Dependent s next j → Dependent s m j
     unfolding next
-    back-dependent c p =
+    back-dependent j hj p =
+        record {
+          multiples = p .multiples;
+          sized = p .sized;
+          before = p .before;
+          combined =
+              one-to-one s t d f h (apply s m (p .multiples)) (column s m j) (L.apply-vector s m (p .multiples)) (L.column-vector s m j hm)
+              (sym (L.apply-product s (step s t d f) m (p .multiples)) ∙ p .combined ∙ sym (L.apply-column s (step s t d f) m j hj));
+        }
+
+    -- and this one has no dependent column before the next's
+    back-first : (c : ℕ) → FirstDependent s next c → FirstDependent s m c
+    unfolding next
+    back-first c p =
         record {
           place = p .place;
           counted = p .counted;
           within = p .within;
-          multiples = p .multiples;
-          sized = p .sized;
-          others = p .others;
-          combined =
-              one-to-one s t d f h (apply s m (p .multiples)) (column s m (p .place)) (L.apply-vector s m (p .multiples))
-              (L.column-vector s m (p .place) hm)
-              (sym (L.apply-product s (step s t d f) m (p .multiples)) ∙ p .combined ∙ sym (L.apply-column s (step s t d f) m (p .place) (p .within)));
+          here = back-dependent (p .place) (p .within) (p .here);
+          none-before = λ j hj d′. p .none-before j hj (L.product-dependent s (step s t d f) m j (omega (arith, p .within)) d′);
         }
 
   one-column : t < s → ((m′ : List ℕ) → Bytes m′ → First s (suc t) m′ → Alternative s m′) → Alternative s m
   unfolding d
-  one-column ht onward = ⊎-elim (λ none. inr (suc t, no-pivot ht (zero-from none))) pivot (all-below (λ i. d (t + i) ≡ 0) (λ i. ℕ-discrete _ 0) (s - t))
+  one-column ht onward = ⊎-elim (λ none. inr (suc t, at-once none)) pivot (all-below (λ i. d (t + i) ≡ 0) (λ i. ℕ-discrete _ 0) (s - t))
     where
       zero-from : ((i : ℕ) → i < s - t → d (t + i) ≡ 0) → (k : ℕ) → k < s → t ≤ k → d k ≡ 0
       zero-from none k hk low =
           let same : t + (k - t) ≡ k = omega arith in
           subst (λ (q : ℕ). d q ≡ 0) same (none (k - t) (omega arith))
 
+      at-once : ((i : ℕ) → i < s - t → d (t + i) ≡ 0) → FirstDependent s m (suc t)
+      at-once none =
+          record { place = t; counted = refl; within = ht; here = no-pivot (zero-from none); none-before = L.units-free s t m (omega arith) first }
+
       pivot : (j : ℕ) × (j < s - t) × (d (t + j) ≡ 0 → ⊥) × ((i : ℕ) → i < j → d (t + i) ≡ 0) → Alternative s m
       pivot (j, below, some, _) =
           let f = chosen-form s t (t + j) d (λ k. entry-byte k t) (omega arith) (omega arith) some in
-          ⊎-elim (λ n. inl (_, back-inverse _ f (n .0) (n .1))) (λ c. inr (c .0, back-dependent _ f (c .0) (c .1)))
+          ⊎-elim (λ n. inl (_, back-inverse _ f (n .0) (n .1))) (λ c. inr (c .0, back-first _ f (c .0) (c .1)))
           (onward (next _ f) (next-bytes _ f) (next-first _ f))
 
 -- ---- all columns
@@ -331,10 +337,10 @@ alternative s m hm = by-columns s s 0 m (omega arith) hm (λ i k hi hk. absurd (
 
 -- a matrix that takes no vector but 00 to 00 has an inverse
 pub nonsingular-inverse : (s : ℕ) (m : List ℕ) → Bytes m → (Singular s m → ⊥) → (n : List ℕ) × IsInverse s m n
-nonsingular-inverse s m hm none = ⊎-elim (λ n. n) (λ c. absurd (none (L.dependent-singular s m (c .0) (c .1)))) (alternative s m hm)
+nonsingular-inverse s m hm none = ⊎-elim (λ n. n) (λ c. absurd (none (L.dependent-singular s m (c .1 .place) (c .1 .within) (c .1 .here)))) (alternative s m hm)
 
--- any other has a column that is a sum of multiples of the others
-pub singular-dependent : (s : ℕ) (m : List ℕ) → Bytes m → Singular s m → (c : ℕ) × Dependent s m c
+-- any other has a first column that is a sum of multiples of those before it
+pub singular-dependent : (s : ℕ) (m : List ℕ) → Bytes m → Singular s m → (c : ℕ) × FirstDependent s m c
 singular-dependent s m hm g = ⊎-elim (λ n. absurd (L.not-singular s m (n .0) (n .1) g)) (λ c. c) (alternative s m hm)
 
 -- ---- `invert`'s post-condition is met by some answer and buffer, whatever it is given

@@ -1,14 +1,16 @@
 -- The identity's entries, and sums against them: one term is left. Assumes nothing.
 use mathlib.Core.Path.{_≡_, refl, sym, ap, _∙_}
 use mathlib.Core.Bool.{Bool, true, false, cond}
-use Prim.Native.Nat.{ℕ, _<_}
+use mathlib.Core.Logic.{⊎-elim}
+use Prim.Native.Nat.{ℕ, _≤_, _<_}
 use native.Mathlib.Omega.{arith}
 use lib.Dec.{eqb}
 use borrow.Author.Tests.{eq-eqb, ne-eqb}
+use Rattle.base.proofs.Cases.{lt-or}
 use Rattle.field.specs.Field.{IsByte, mul}
 use Rattle.field.specs.FiniteSum.{sum}
 use Rattle.field.proofs.Multiplication.{mul-zero-left, mul-zero-right, mul-one-left, mul-one-right}
-use Rattle.field.proofs.FiniteSum.{sum-one}
+use Rattle.field.proofs.FiniteSum.{sum-ext, sum-one}
 use Rattle.matrix.specs.Product.{unit}
 
 pub unit-same : (i : ℕ) → unit i i ≡ 1
@@ -37,3 +39,17 @@ pub sum-unit : (n j : ℕ) (f : ℕ → ℕ) → j < n → IsByte (f j) → sum 
 sum-unit n j f hj hf =
     sum-one n j (λ k. mul (f k) (unit k j)) hj (λ k hk ne. ap (mul (f k)) (unit-other k j ne) ∙ mul-zero-right (f k))
     ∙ ap (mul (f j)) (unit-same j) ∙ mul-one-right (f j) hf
+
+-- a row whose entries before place t are the identity's, against a vector that is 00 from there on
+pub unit-sum-before : (n t i : ℕ) (row z : ℕ → ℕ) → ((k : ℕ) → k < t → row k ≡ unit i k) → ((k : ℕ) → k < n → t ≤ k → z k ≡ 0) → i < n → IsByte (z i)
+    → sum n (λ k. mul (row k) (z k)) ≡ z i
+unit-sum-before n t i row z units zeros hi byte =
+    sum-ext n (λ k. mul (row k) (z k)) (λ k. mul (unit i k) (z k))
+    (λ k hk.
+    ⊎-elim (λ low. ap (λ (x : ℕ). mul x (z k)) (units k low))
+    (λ high. nothing (row k) (z k) (zeros k hk high) ∙ sym (nothing (unit i k) (z k) (zeros k hk high)))
+    (lt-or k t))
+    ∙ unit-sum n i z hi byte
+  where
+    nothing : (a b : ℕ) → b ≡ 0 → mul a b ≡ 0
+    nothing a b e = ap (mul a) e ∙ mul-zero-right a

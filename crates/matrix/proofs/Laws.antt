@@ -3,7 +3,7 @@
 use mathlib.Core.Path.{_≡_, refl, sym, ap, ap₂, _∙_, subst}
 use mathlib.Core.Bool.{Bool, true, false}
 use mathlib.Core.List.{List, [], _∷_, _++_}
-use mathlib.Core.Logic.{⊎-elim}
+use mathlib.Core.Logic.{_↔_, ⊎-elim}
 use Prim.Native.Nat.{ℕ, zero, suc, _+_, _*_, _/_, _%_, _≤_, _<_}
 use native.Mathlib.Nat.{zero-lt-suc}
 use native.Mathlib.Omega.{arith}
@@ -13,18 +13,19 @@ use borrow.Author.Tests.{le-leb, eq-eqb}
 use Rattle.base.specs.Gate.{Question, firstNo}
 use Rattle.base.specs.Seq.{tabulate, cell, blocks}
 use Rattle.base.proofs.Cases.{lt-or, eq-or}
-use Rattle.base.proofs.Questions.{first, stopped}
-use Rattle.base.proofs.Seq.{length-tabulate, getD-tabulate, tabulate-ext, tabulate-zeros, length-blocks, cell-blocks, cells-ext}
+use Rattle.base.proofs.Questions.{nay, first, stopped, past}
+use Rattle.base.proofs.Seq.{length-tabulate, getD-tabulate, getD-tabulate-past, tabulate-ext, tabulate-zeros, zeros-at, length-blocks, cell-blocks, cells-ext}
 use Rattle.field.specs.Field.{IsByte, Bytes, add, mul}
 use Rattle.field.specs.FiniteSum.{sum}
 use Rattle.field.proofs.Addition.{add-byte, add-self, add-zero-left}
 use Rattle.field.proofs.Multiplication.{mul-add-right, mul-assoc, mul-byte, mul-zero-right}
 use Rattle.field.proofs.FiniteSum.{sum-byte, sum-ext, sum-zeros, sum-add, mul-sum, sum-mul, sum-exchange}
-use Rattle.matrix.specs.Matrix.{Vector, entry, apply, column, IsInverse, Singular, Dependent}
-use Rattle.matrix.specs.Invert.{number, sideAsked, lengthsAsked, inverseAsked, InvertPost}
+use Rattle.matrix.specs.Matrix.{Vector, entry, apply, column, IsInverse, Singular, Dependent, FirstDependent}
+use Rattle.matrix.specs.Invert.{number, columnNumber, Proper, sideAsked, lengthsAsked, inverseAsked, InvertPost}
 use Rattle.matrix.specs.Product.{unit, identity, product, vectorSum}
 use Rattle.matrix.specs.declared.Inversion.{Inversion}
-use Rattle.matrix.proofs.Identity.{unit-same, unit-byte, unit-sum, sum-unit}
+use Rattle.matrix.specs.declared.Inversion.the-variants.{Inverted, Singular as SingularAt, Refused}
+use Rattle.matrix.proofs.Identity.{unit-same, unit-other, unit-byte, unit-sum, sum-unit, unit-sum-before}
 
 -- ---- lists by their entries
 
@@ -264,33 +265,83 @@ inverse-by-products s m n en hn right left =
           );
     }
 
--- ---- a dependent column
+-- ---- dependent columns
 
--- the multiples, with 1 for the column itself, are taken to zero
-pub dependent-singular : (s : ℕ) (m : List ℕ) (c : ℕ) → Dependent s m c → Singular s m
+-- column j's multiples, with 1 for the column itself: a vector that is taken to zero
+pub record Relation (s : ℕ) (m : List ℕ) (j : ℕ) : Type 0 where
+  pub vector : List ℕ
+  pub sized : Vector s vector
+  pub own : getD vector j 0 ≡ 1
+  pub after : (k : ℕ) → j < k → getD vector k 0 ≡ 0
+  pub taken : (i : ℕ) → i < s → sum s (λ k. mul (entry s m i k) (getD vector k 0)) ≡ 0
+
+pub relation : (s : ℕ) (m : List ℕ) (j : ℕ) → j < s → Dependent s m j → Relation s m j
 unfolding vectorSum
-dependent-singular s m c d =
+relation s m j hj d =
     record {
-      vector = vectorSum s (d .multiples) own;
-      sized = vector-tabulate s _ (λ k. add-byte _ _ (d .sized .bytes k) (basis-vector s (d .place) .bytes k));
-      nonzero =
-          λ e.
-          let one : getD (vectorSum s (d .multiples) own) (d .place) 0 ≡ 1 =
-          getD-tabulate s _ (d .place) (d .within) ∙ ap₂ add (d .others) (basis-at s (d .place) (d .place) (d .within) ∙ unit-same (d .place)) ∙ add-zero-left 1 in
-          let none : getD (vectorSum s (d .multiples) own) (d .place) 0 ≡ 0 =
-          ap (λ (l : List ℕ). getD l (d .place) 0) e ∙ getD-replicate {A = ℕ} s (d .place) 0 0 (d .within) in
-          omega arith;
+      vector = vectorSum s (d .multiples) (basis s j);
+      sized = vector-tabulate s _ (λ k. add-byte _ _ (d .sized .bytes k) (basis-vector s j .bytes k));
+      own =
+          getD-tabulate s _ j hj ∙ ap₂ add (d .before j (omega arith)) (basis-at s j j hj ∙ unit-same j) ∙ add-zero-left 1;
+      after =
+          λ k above.
+          ⊎-elim
+          (λ hk.
+          getD-tabulate s _ k hk ∙ ap₂ add (d .before k (omega arith)) (basis-at s j k hk ∙ unit-other k j (λ e. omega arith)) ∙ add-zero-left 0)
+          (getD-tabulate-past s _ k) (lt-or k s);
       taken =
-          apply-sum s m (d .multiples) own
-          ∙ ap (vectorSum s (apply s m (d .multiples))) (apply-basis s m (d .place) (d .within) bytes ∙ sym (d .combined))
-          ∙ tabulate-ext s _ (λ i. 0) (λ i hi. add-self _) ∙ tabulate-zeros s;
+          λ i hi.
+          apply-at s m (vectorSum s (d .multiples) (basis s j)) (replicate s 0) zero i hi ∙ zeros-at s i;
     }
   where
-    own : List ℕ
-    own = basis s (d .place)
-
-    bytes : Bytes (column s m (d .place))
+    bytes : Bytes (column s m j)
     bytes = subst Bytes (d .combined) (apply-vector s m (d .multiples) .bytes)
+
+    zero : apply s m (vectorSum s (d .multiples) (basis s j)) ≡ replicate s 0
+    zero =
+        apply-sum s m (d .multiples) (basis s j)
+        ∙ ap (vectorSum s (apply s m (d .multiples))) (apply-basis s m j hj bytes ∙ sym (d .combined))
+        ∙ tabulate-ext s _ (λ i. 0) (λ i hi. add-self _) ∙ tabulate-zeros s
+
+pub dependent-singular : (s : ℕ) (m : List ℕ) (j : ℕ) → j < s → Dependent s m j → Singular s m
+dependent-singular s m j hj d =
+    let r = relation s m j hj d in
+    record {
+      vector = r .vector;
+      sized = r .sized;
+      nonzero =
+          λ e.
+          let none : getD (r .vector) j 0 ≡ 0 = ap (λ (l : List ℕ). getD l j 0) e ∙ zeros-at s j in
+          omega (arith, r .own);
+      taken = apply-is s m (r .vector) (replicate s 0) (length-replicate {A = ℕ} s 0) (λ i hi. r .taken i hi ∙ sym (zeros-at s i));
+    }
+
+-- a matrix whose first t columns are the identity's has no dependent one among them: row j's entry would be both 1 and 0
+pub units-free : (s t : ℕ) (m : List ℕ) → t ≤ s → ((i k : ℕ) → i < s → k < t → entry s m i k ≡ unit i k)
+    → (j : ℕ) → j < t → Dependent s m j → ⊥
+units-free s t m ht units j hj d =
+    let r = relation s m j (omega arith) d in
+    let none : getD (r .vector) j 0 ≡ 0 =
+    sym (unit-sum-before s t j (entry s m j) (λ k. getD (r .vector) k 0) (λ k hk. units j k (omega arith) hk) (λ k hk high. r .after k (omega arith)) (omega arith) (r .sized .bytes j))
+    ∙ r .taken j (omega arith) in
+    omega (arith, r .own)
+
+-- what takes a matrix's columns elsewhere takes their sums along
+pub product-dependent : (s : ℕ) (e m : List ℕ) (j : ℕ) → j < s → Dependent s m j → Dependent s (product s e m) j
+product-dependent s e m j hj d =
+    record {
+      multiples = d .multiples;
+      sized = d .sized;
+      before = d .before;
+      combined = apply-product s e m (d .multiples) ∙ ap (apply s e) (d .combined) ∙ apply-column s e m j hj;
+    }
+
+-- there is but one first
+pub first-once : (s : ℕ) (m : List ℕ) (c c′ : ℕ) → FirstDependent s m c → FirstDependent s m c′ → c ≡ c′
+first-once s m c c′ d d′ =
+    let low : d .place ≤ d′ .place = ⊎-elim (λ h. absurd (d .none-before (d′ .place) h (d′ .here))) (λ h. h) (lt-or (d′ .place) (d .place)) in
+    let high : d′ .place ≤ d .place = ⊎-elim (λ h. absurd (d′ .none-before (d .place) h (d .here))) (λ h. h) (lt-or (d .place) (d′ .place)) in
+    omega (arith, d .counted, d′ .counted)
 
 -- ---- the questions of `invert`
 
@@ -308,16 +359,30 @@ unfolding firstNo
 gate-open s m old rest o =
     simp (le-leb 1 s (o .low), le-leb s 32 (o .high), eq-eqb (length m) (s * s) (o .matrix), eq-eqb (length old) (s * s) (o .buffer))
 
--- ---- the post-condition settles the answer's number and every byte of the buffer
+-- ---- the post-condition settles the answer, column and all, and every byte of the buffer
 
 same-answer : (b b′ : Bool) → (b ≡ false → b′ ≡ false) → (b′ ≡ false → b ≡ false) → b ≡ b′
 same-answer true true f g = refl
 same-answer false b′ f g = sym (f refl)
 same-answer true false f g = g refl
 
+same-inversion : (x y : Inversion) → Proper x → Proper y → number x ≡ number y → columnNumber x ≡ columnNumber y → x ≡ y
+same-inversion Inverted Inverted p q e c = refl
+same-inversion Inverted (SingularAt j) p q e c = absurd (omega (arith, e))
+same-inversion Inverted (Refused a) p q e c = absurd (q .0 (sym e))
+same-inversion (SingularAt i) Inverted p q e c = absurd (omega (arith, e))
+same-inversion (SingularAt i) (SingularAt j) p q e c = ap SingularAt c
+same-inversion (SingularAt i) (Refused a) p q e c = absurd (q .1 (sym e))
+same-inversion (Refused a) Inverted p q e c = absurd (p .0 e)
+same-inversion (Refused a) (SingularAt j) p q e c = absurd (p .1 e)
+same-inversion (Refused a) (Refused b) p q e c = ap Refused e
+
 pub invert-once : (s : ℕ) (m old : List ℕ) (answer answer′ : Inversion) (new new′ : List ℕ) → InvertPost s m old answer new
-    → InvertPost s m old answer′ new′ → (number answer ≡ number answer′) × (new ≡ new′)
-invert-once s m old answer answer′ new new′ post post′ = (numbers, ⊎-elim both-served both-refused (eq-or (number answer) 0))
+    → InvertPost s m old answer′ new′ → (answer ≡ answer′) × (new ≡ new′)
+invert-once s m old answer answer′ new new′ post post′ = (
+  same-inversion answer answer′ (post .proper) (post′ .proper) numbers columns,
+  ⊎-elim both-served both-refused (eq-or (number answer) 0),
+)
   where
     front : List Question
     front = sideAsked s ∷ lengthsAsked s m old ∷ []
@@ -337,8 +402,29 @@ invert-once s m old answer answer′ new new′ post post′ = (numbers, ⊎-eli
         ∙ ⊎-elim (λ z. ap (λ (b : Bool). firstNo (front ++ inverseAsked b ∷ [])) (asked-alike z)) (λ ne. stays ne (post .hasInverse) (post′ .hasInverse)) (eq-or (firstNo front) 0)
         ∙ sym (post′ .first)
 
+    columns : columnNumber answer ≡ columnNumber answer′
+    columns =
+        ⊎-elim (λ e. first-once s m _ _ (post .dependent e) (post′ .dependent (sym numbers ∙ e)))
+        (λ ne. post .noColumn ne ∙ sym (post′ .noColumn (λ e. ne (numbers ∙ e)))) (eq-or (number answer) 15)
+
     both-served : number answer ≡ 0 → new ≡ new′
     both-served z = inverse-unique s m new new′ (post .served z) (post′ .served (sym numbers ∙ z))
 
     both-refused : (number answer ≡ 0 → ⊥) → new ≡ new′
     both-refused ne = post .refused ne ∙ sym (post′ .refused (λ z. ne (numbers ∙ z)))
+
+-- where the first two questions are answered yes: 15 comes with column c exactly if c is the first dependent one, whatever the buffer holds
+pub column-exactly : (s : ℕ) (m old new : List ℕ) (answer : Inversion) (c : ℕ) → firstNo (sideAsked s ∷ lengthsAsked s m old ∷ []) ≡ 0
+    → InvertPost s m old answer new → ((number answer ≡ 15) × (columnNumber answer ≡ c)) ↔ FirstDependent s m c
+column-exactly s m old new answer c z post = (
+  λ e. subst (FirstDependent s m) (e .1) (post .dependent (e .0)),
+  λ d. let fifteen = answered d in (fifteen, first-once s m _ _ (post .dependent fifteen) d),
+)
+  where
+    front : List Question
+    front = sideAsked s ∷ lengthsAsked s m old ∷ []
+
+    answered : FirstDependent s m c → number answer ≡ 15
+    answered d =
+        let singular = dependent-singular s m (d .place) (d .within) (d .here) in
+        post .first ∙ sym (first (front ++ inverseAsked (post .hasInverse) ∷ []) (past front tt refl z (nay (post .asked z .1 singular))))

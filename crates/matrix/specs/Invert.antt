@@ -7,7 +7,7 @@ use Prim.Native.Nat.{ℕ, _*_}
 use lib.Dec.{leb, eqb}
 use lib.ListN.{length}
 use Rattle.base.specs.Gate.{Question, ask, firstNo}
-use Rattle.matrix.specs.Matrix.{IsInverse, Singular, Dependent}
+use Rattle.matrix.specs.Matrix.{IsInverse, Singular, FirstDependent}
 use Rattle.matrix.specs.declared.Inversion.{Inversion}
 use Rattle.matrix.specs.declared.Inversion.the-variants.{Inverted, Singular as SingularAt, Refused}
 
@@ -51,6 +51,6 @@ pub record InvertPost (s : ℕ) (m old : List ℕ) (answer : Inversion) (new : L
   pub served : number answer ≡ 0 → IsInverse s m new
   -- "A refusal writes nothing, and besides its number gives only .. the column of 15."
   pub refused : (number answer ≡ 0 → ⊥) → new ≡ old
-  pub dependent : number answer ≡ 15 → Dependent s m (columnNumber answer)
+  pub dependent : number answer ≡ 15 → FirstDependent s m (columnNumber answer)
   pub noColumn : (number answer ≡ 15 → ⊥) → columnNumber answer ≡ 0
   pub proper : Proper answer

@@ -2,7 +2,7 @@
 use mathlib.Core.Path.{_≡_}
 use mathlib.Core.List.{List}
 use mathlib.Core.Logic.{_↔_}
-use Prim.Native.Nat.{ℕ, suc, _+_, _*_, _<_}
+use Prim.Native.Nat.{ℕ, suc, _+_, _*_, _≤_, _<_}
 use lib.ListN.{length, getD, replicate}
 use Rattle.base.specs.Seq.{tabulate}
 use Rattle.field.specs.Field.{Bytes, mul}
@@ -39,13 +39,19 @@ pub record Singular (s : ℕ) (m : List ℕ) : Type 0 where
   pub nonzero : vector ≡ replicate s 0 → ⊥
   pub taken : apply s m vector ≡ replicate s 0
 
--- "Then the answer also carries a column number, from 1 to s: some column that is a sum of multiples of the other columns (for s = 1, the column is 00)."
--- The multiples make a vector whose own entry for that column is 00.
-pub record Dependent (s : ℕ) (m : List ℕ) (number : ℕ) : Type 0 where
+-- Column j, counted from 0, "is a sum of multiples of the columns before it (a column of 00 counts)" (document 02, 2026-05): the multiples make a vector that is
+-- 00 from place j on. Where all of them are 00, or no column is before it, the column is 00.
+pub record Dependent (s : ℕ) (m : List ℕ) (j : ℕ) : Type 0 where
+  pub multiples : List ℕ
+  pub sized : Vector s multiples
+  pub before : (k : ℕ) → j ≤ k → getD multiples k 0 ≡ 0
+  pub combined : apply s m multiples ≡ column s m j
+
+-- "Then the answer also carries a column number, from 1 to s", which "is now the first that is a sum of multiples of the columns before it": such a column,
+-- and none before it is one.
+pub record FirstDependent (s : ℕ) (m : List ℕ) (number : ℕ) : Type 0 where
   pub place : ℕ
   pub counted : number ≡ suc place
   pub within : place < s
-  pub multiples : List ℕ
-  pub sized : Vector s multiples
-  pub others : getD multiples place 0 ≡ 0
-  pub combined : apply s m multiples ≡ column s m place
+  pub here : Dependent s m place
+  pub none-before : (j : ℕ) → j < place → Dependent s m j → ⊥

@@ -12,7 +12,8 @@ pub use make::{any_arrangement, any_serial, any_serials, right, shapes, spoil, C
 use reference::cases::{Case, Reference};
 use std::collections::BTreeSet;
 
-/// Puts a case to both; the number, every byte and every serial must be the same.
+/// Puts a case to both; the number, every byte, every serial and what is given beside
+/// them must be the same.
 pub fn agree(case: &Case) -> u64 {
     let expected = case.run(&Reference);
     let found = case.run(&Library);

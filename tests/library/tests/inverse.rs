@@ -1,10 +1,10 @@
-//! The matrix inverse. The column that goes with 15 is tested by the reference's
-//! arithmetic.
+//! The matrix inverse, with the column that goes with 15.
 
-use library::{agree, spoil, Answers};
+use library::{agree, spoil, Answers, Library};
 use reference::cases::Case;
 use reference::corpus::Rng;
 use reference::field;
+use std::cmp::Ordering;
 
 /// A matrix by rows, from its entries.
 fn matrix(side: u64, entry: impl Fn(u64, u64) -> u8) -> Vec<u8> {
@@ -106,7 +106,56 @@ fn matrices_of_known_forms() {
     }
 }
 
-/// Every matrix of side 1, and all of side 2 with entries from a few.
+/// The columns up to `place` (from 0) have 00 above the diagonal and not on it, so that
+/// none is a sum of multiples of those before it; that at `place` is, and all behind
+/// it are whichever. Rows are then exchanged, which alters no such sum.
+#[test]
+fn the_first_dependent_column_at_every_place() {
+    let mut rng = Rng::new(407);
+    for side in 1..=32 {
+        for place in 0..side {
+            let (bytes, factors) = (rng.bytes(side * side), rng.bytes(side));
+            let at = |row: u64, column: u64| bytes[(row * side + column) as usize];
+            let lower = |row: u64, column: u64| match row.cmp(&column) {
+                Ordering::Less => 0,
+                Ordering::Equal => at(row, column).max(1),
+                Ordering::Greater => at(row, column),
+            };
+            let sum = |row: u64| {
+                (0..place).fold(0, |sum, c| {
+                    field::add(sum, field::mul(factors[c as usize], lower(row, c)))
+                })
+            };
+            let step = rng.below(side);
+            let bytes = matrix(side, |row, column| {
+                let row = (row + step) % side;
+                match column.cmp(&place) {
+                    Ordering::Less => lower(row, column),
+                    Ordering::Equal => sum(row),
+                    Ordering::Greater => at(row, column),
+                }
+            });
+            let case = case(&mut rng, side, bytes);
+            assert_eq!(agree(&case), 15);
+            assert_eq!(case.run(&Library).column, Some(place + 1));
+        }
+    }
+}
+
+/// Two who test one matrix are told one column, whatever their buffers hold.
+#[test]
+fn the_column_is_the_matrix_s_own() {
+    let mut rng = Rng::new(408);
+    for side in 1..=32 {
+        let mut bytes = rng.bytes(side * side);
+        make_dependent(&mut rng, side, &mut bytes);
+        let one = case(&mut rng, side, bytes.clone()).run(&Library).column;
+        let other = case(&mut rng, side, bytes).run(&Library).column;
+        assert!(one.is_some() && one == other);
+    }
+}
+
+/// Every matrix of side 1, and all of sides 2 and 3 with entries from a few.
 #[test]
 fn small_sides() {
     let mut rng = Rng::new(405);
@@ -122,6 +171,11 @@ fn small_sides() {
                 }
             }
         }
+    }
+    for index in 0..3u32.pow(9) {
+        let digits = (0..9).map(|place| (index / 3u32.pow(place) % 3) as u8);
+        let bytes = digits.collect();
+        agree(&case(&mut rng, 3, bytes));
     }
 }
 

@@ -1,7 +1,7 @@
 //! One call with all its arguments, to be put to any implementation.
 
 use crate::calls::{Move, Sending};
-use crate::{is_sum_of_others, Arrangement, Shape};
+use crate::{Arrangement, Shape};
 
 /// An implementation of the calls. Each gives its number and writes its buffers
 /// in place.
@@ -190,9 +190,8 @@ pub struct Outcome {
     pub serials: Vec<u32>,
     /// Check's trap.
     pub trap: Option<u64>,
-    /// Of the inverse: 15 came with a column that is a sum of multiples of the
-    /// others, any other number without a column.
-    pub column_right: bool,
+    /// The column that the inverse gives with 15.
+    pub column: Option<u64>,
 }
 
 impl Outcome {
@@ -202,7 +201,7 @@ impl Outcome {
             bytes,
             serials: Vec::new(),
             trap: None,
-            column_right: true,
+            column: None,
         }
     }
 }
@@ -214,9 +213,8 @@ impl Case {
             Case::Inverse { side, matrix, out } => {
                 let mut out = out.clone();
                 let (number, column) = calls.inverse(*side, matrix, &mut out);
-                let right = |c| is_sum_of_others(*side, matrix, c);
                 Outcome {
-                    column_right: column.map(right) == (number == 15).then_some(true),
+                    column,
                     ..Outcome::new(number, out)
                 }
             }

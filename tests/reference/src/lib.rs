@@ -20,5 +20,5 @@ pub mod vectors;
 
 pub use calls::{change, check, difference, reading, rearrangement, rebuild, setup, view};
 pub use gate::{Arrangement, Shape};
-pub use matrix::{inverse, is_sum_of_others};
+pub use matrix::inverse;
 pub use season::season;

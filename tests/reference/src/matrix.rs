@@ -86,7 +86,8 @@ fn span_of_columns(side: usize, matrix: &[u8]) -> Result<Span, usize> {
 }
 
 /// The matrix inverse with its questions 16, 6, 15. The column number comes
-/// with 15 only.
+/// with 15 only: the first column that is a sum of multiples of those before it
+/// (request 2026-05).
 pub fn inverse(side: u64, matrix: &[u8], out: &mut [u8]) -> (u64, Option<u64>) {
     if !(1..=32).contains(&side) {
         return (16, None);
@@ -111,20 +112,6 @@ fn write_inverse(side: usize, span: &Span, out: &mut [u8]) {
             out[row * side + member.place] = *factor;
         }
     }
-}
-
-/// Is column `c` (from 1) a sum of multiples of the other columns?
-pub fn is_sum_of_others(side: u64, matrix: &[u8], c: u64) -> bool {
-    let s = side as usize;
-    if side > 32 || matrix.len() != s * s || !(1..=side).contains(&c) {
-        return false;
-    }
-    let asked = c as usize - 1;
-    let mut span = Span::new();
-    for other in (0..s).filter(|&other| other != asked) {
-        span.insert(column(s, matrix, other), unit(s, other));
-    }
-    !span.insert(column(s, matrix, asked), unit(s, asked))
 }
 
 #[cfg(test)]
@@ -159,6 +146,25 @@ mod tests {
         (0..count).map(|_| next()).collect()
     }
 
+    /// Is the vector a sum of multiples of the columns? By trying every multiple.
+    fn is_sum(vector: &[u8], columns: &[Vec<u8>]) -> bool {
+        let Some((last, others)) = columns.split_last() else {
+            return vector.iter().all(|&v| v == 0);
+        };
+        (0..=255).any(|factor| {
+            let mut rest = vector.to_vec();
+            add_multiple(&mut rest, last, factor);
+            is_sum(&rest, others)
+        })
+    }
+
+    /// The first column (from 1) that is a sum of multiples of those before it.
+    fn first_sum(side: usize, matrix: &[u8]) -> Option<u64> {
+        let columns: Vec<Vec<u8>> = (0..side).map(|c| column(side, matrix, c)).collect();
+        let found = (0..side).find(|&c| is_sum(&columns[c], &columns[..c]));
+        found.map(|c| c as u64 + 1)
+    }
+
     /// Does the matrix take some vector of two bytes, not all 00, to all 00?
     fn kills_some_pair(matrix: &[u8]) -> bool {
         let image = |u: u8, v: u8, row: usize| {
@@ -176,12 +182,9 @@ mod tests {
             for seed in 0..6 {
                 let matrix = bytes(side * side, seed + 100 * side as u32);
                 let mut out = vec![0xEE; side * side];
-                let (number, column) = inverse(side as u64, &matrix, &mut out);
-                if number == 0 {
+                if inverse(side as u64, &matrix, &mut out).0 == 0 {
                     assert_eq!(product(side, &matrix, &out), identity(side));
                     assert_eq!(product(side, &out, &matrix), identity(side));
-                } else {
-                    assert!(is_sum_of_others(side as u64, &matrix, column.unwrap()));
                 }
             }
         }
@@ -221,27 +224,66 @@ mod tests {
         assert_eq!(out, [0x8E]);
     }
 
+    /// By hand, from the words of request 2026-05.
     #[test]
-    fn which_columns_are_right() {
-        let matrix = [0, 1, 0, 1];
-        assert!(is_sum_of_others(2, &matrix, 1));
-        assert!(!is_sum_of_others(2, &matrix, 2));
-        assert!(!is_sum_of_others(2, &matrix, 0));
-        assert!(!is_sum_of_others(2, &matrix, 3));
-        assert!(is_sum_of_others(1, &[0], 1));
-        assert!(!is_sum_of_others(1, &[7], 1));
+    fn the_first_dependent_column() {
+        let column = |side, matrix: &[u8]| inverse(side, matrix, &mut vec![0; matrix.len()]).1;
+        assert_eq!(column(2, &[1, 1, 1, 1]), Some(2));
+        assert_eq!(column(2, &[0, 1, 0, 1]), Some(1));
+        assert_eq!(column(2, &[0, 0, 0, 0]), Some(1));
+        assert_eq!(column(2, &[2, 0, 1, 0]), Some(2));
+        assert_eq!(column(3, &[1, 0, 0, 0, 0, 1, 0, 0, 1]), Some(2));
+        assert_eq!(column(3, &[1, 0, 1, 0, 1, 1, 0, 0, 0]), Some(3));
+        assert_eq!(column(3, &[1, 1, 1, 1, 1, 1, 1, 1, 1]), Some(2));
+        assert_eq!(column(2, &[1, 1, 0, 1]), None);
     }
 
     #[test]
-    fn repeated_columns_at_every_side() {
-        for side in 2..=32usize {
-            let mut matrix = bytes(side * side, side as u32);
-            for row in 0..side {
-                matrix[row * side + side - 1] = field::mul(3, matrix[row * side]);
+    fn the_column_by_trying_all_multiples() {
+        let entries = [0, 1, 2, 0x1D];
+        for index in 0..256 {
+            let entry = |place: u32| entries[(index >> (2 * place)) & 3];
+            let matrix: Vec<u8> = (0..4).map(entry).collect();
+            let (_, found) = inverse(2, &matrix, &mut [0; 4]);
+            assert_eq!(found, first_sum(2, &matrix), "{matrix:x?}");
+        }
+        for seed in 0..12 {
+            let mut matrix = bytes(9, 700 + seed);
+            for row in matrix.chunks_exact_mut(3) {
+                row[2] = field::mul(seed as u8, row[0]) ^ row[1];
             }
-            let (number, found) = inverse(side as u64, &matrix, &mut vec![0; side * side]);
-            assert_eq!(number, 15);
-            assert!(is_sum_of_others(side as u64, &matrix, found.unwrap()));
+            let swap = seed as usize % 3;
+            for row in matrix.chunks_exact_mut(3) {
+                row.swap(2, swap);
+            }
+            let (_, found) = inverse(3, &matrix, &mut [0; 9]);
+            assert_eq!(found, first_sum(3, &matrix), "{matrix:x?}");
+        }
+    }
+
+    /// Columns with 00 above the diagonal and not on it are no sums of multiples of
+    /// those before them; one that is follows, and then any.
+    #[test]
+    fn the_column_by_construction_at_every_place() {
+        for side in 1..=32usize {
+            for place in 0..side {
+                let mut matrix = bytes(side * side, (100 * side + place) as u32);
+                let factors = bytes(place, 7 + place as u32);
+                for row in 0..side {
+                    let line = &mut matrix[row * side..(row + 1) * side];
+                    for (c, entry) in line[..place].iter_mut().enumerate() {
+                        *entry = match row.cmp(&c) {
+                            std::cmp::Ordering::Less => 0,
+                            std::cmp::Ordering::Equal => *entry | 1,
+                            std::cmp::Ordering::Greater => *entry,
+                        };
+                    }
+                    let terms = line[..place].iter().zip(&factors);
+                    line[place] = terms.fold(0, |sum, (&e, &f)| sum ^ field::mul(e, f));
+                }
+                let answer = inverse(side as u64, &matrix, &mut vec![0; side * side]);
+                assert_eq!(answer, (15, Some(place as u64 + 1)));
+            }
         }
     }
 }

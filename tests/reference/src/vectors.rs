@@ -1,7 +1,7 @@
 //! Files of calls, a line each: the call, its arguments as name=value, an arrow,
 //! the answer, and what the buffers hold after it.
 
-use crate::cases::{Calls, Case, Outcome};
+use crate::cases::{Calls, Case, Outcome, Reference};
 use crate::pair::traps_of;
 use crate::{Arrangement, Shape};
 use std::collections::BTreeMap;
@@ -169,6 +169,7 @@ fn to_list(numbers: &[u32]) -> String {
 
 /// An outcome as a line has it behind its arrow.
 fn behind_arrow(case: &Case, outcome: &Outcome) -> String {
+    let told = |value: Option<u64>| value.map_or("-".to_string(), |v| v.to_string());
     let (name, serials) = match case {
         Case::Inverse { .. } | Case::Reading { .. } | Case::Difference { .. } => ("out", None),
         Case::Setup { .. } | Case::Change { .. } | Case::Rebuild { .. } => {
@@ -177,13 +178,15 @@ fn behind_arrow(case: &Case, outcome: &Outcome) -> String {
         Case::Rearrangement { .. } => ("new", Some("new_serials")),
         Case::View { .. } => ("part", None),
         Case::Check { .. } => {
-            let trap = outcome.trap.map_or("-".to_string(), |t| t.to_string());
-            return format!("{} trap={trap}", outcome.number);
+            return format!("{} trap={}", outcome.number, told(outcome.trap));
         }
     };
     let mut text = format!("{} {name}={}", outcome.number, to_hex(&outcome.bytes));
     if let Some(name) = serials {
         text += &format!(" {name}={}", to_list(&outcome.serials));
+    }
+    if let Case::Inverse { .. } = case {
+        text += &format!(" column={}", told(outcome.column));
     }
     text
 }
@@ -193,15 +196,22 @@ fn zeros(n: u64) -> Vec<u32> {
     vec![0; n.min(32) as usize]
 }
 
-/// What request 2026-03 adds to a line of an earlier state, before and behind its
-/// arrow: serials of the right length, all 0, and a change has the serial 1 and
-/// reaches all of W. The traps of an accepted change's W then have serial 1, and
-/// all others 0.
-fn additions(call: &str, fields: &Fields, accepted: bool) -> Parsed<(String, String)> {
-    if fields.text("serials").is_ok() {
+/// What requests 2026-03 and 2026-05 add to a line of an earlier state, before and
+/// behind its arrow. 2026-03: serials of the right length, all 0, and a change has
+/// the serial 1 and reaches all of W. The traps of an accepted change's W then have
+/// serial 1, and all others 0. 2026-05: the inverse's column, as this crate has it.
+fn additions(call: &str, fields: &Fields, expected: &str) -> Parsed<(String, String)> {
+    if fields.text("serials").is_ok() || expected.contains(" column=") {
         return Ok(Default::default());
     }
+    let accepted = expected.starts_with("0 ");
     Ok(match call {
+        "inverse" => {
+            let case = fields.case(call)?;
+            let whole = behind_arrow(&case, &case.run(&Reference));
+            let (_, column) = whole.rsplit_once(' ').ok_or("no column")?;
+            (String::new(), format!(" {column}"))
+        }
         "setup" | "rebuild" => {
             let serials = format!(" serials={}", to_list(&zeros(fields.number("n")?)));
             (serials.clone(), serials)
@@ -233,8 +243,7 @@ fn additions(call: &str, fields: &Fields, accepted: bool) -> Parsed<(String, Str
 pub enum Verdict {
     Same,
     NumberDiffers,
-    BytesDiffer,
-    ColumnWrong,
+    RestDiffers,
 }
 
 fn compare(expected: &str, found: &str) -> Verdict {
@@ -244,7 +253,7 @@ fn compare(expected: &str, found: &str) -> Verdict {
     } else if number(expected) != number(found) {
         Verdict::NumberDiffers
     } else {
-        Verdict::BytesDiffer
+        Verdict::RestDiffers
     }
 }
 
@@ -260,8 +269,7 @@ pub struct Tried<'a> {
 pub fn try_line<'a>(line: &'a str, calls: &dyn Calls) -> Parsed<Tried<'a>> {
     let (before, expected) = line.split_once(" -> ").ok_or("no arrow")?;
     let (call, rest) = before.split_once(' ').ok_or("no arguments")?;
-    let accepted = expected.starts_with("0 ");
-    let (given, left) = additions(call, &Fields::parse(rest)?, accepted)?;
+    let (given, left) = additions(call, &Fields::parse(rest)?, expected)?;
     let (rest, expected) = (
         format!("{rest}{given}"),
         format!("{}{left}", expected.trim_end()),
@@ -269,11 +277,7 @@ pub fn try_line<'a>(line: &'a str, calls: &dyn Calls) -> Parsed<Tried<'a>> {
     let case = Fields::parse(&rest)?.case(call)?;
     let outcome = case.run(calls);
     let found = behind_arrow(&case, &outcome);
-    let verdict = if outcome.column_right {
-        compare(&expected, &found)
-    } else {
-        Verdict::ColumnWrong
-    };
+    let verdict = compare(&expected, &found);
     Ok(Tried {
         call,
         expected,

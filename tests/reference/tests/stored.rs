@@ -35,6 +35,8 @@ fn calls() {
     assert_eq!(try_all(loose, &Reference), Ok(400));
     let serials = include_str!("../../vectors/2026-03-calls.txt");
     assert_eq!(try_all(serials, &Reference), Ok(400));
+    let columns = include_str!("../../vectors/2026-05-calls.txt");
+    assert_eq!(try_all(columns, &Reference), Ok(400));
 }
 
 #[test]

@@ -1,4 +1,4 @@
--- The questions in their order; then the end of the elimination is read as the inverse, or as a column that depends on others. Assumes nothing.
+-- The questions in their order; then the end of the elimination is read as the inverse, or as the first dependent column. Assumes nothing.
 use mathlib.Core.Path.{_∙_, subst}
 use native.Mathlib.Omega.{arith}
 use borrow.Author.Tests.{le-leb, lt-leb, eq-eqb, ne-eqb}

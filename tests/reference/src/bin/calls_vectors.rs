@@ -11,8 +11,7 @@ use std::process::ExitCode;
 struct Count {
     lines: usize,
     number: usize,
-    bytes: usize,
-    column: usize,
+    rest: usize,
 }
 
 impl Count {
@@ -21,13 +20,12 @@ impl Count {
         match verdict {
             Verdict::Same => {}
             Verdict::NumberDiffers => self.number += 1,
-            Verdict::BytesDiffer => self.bytes += 1,
-            Verdict::ColumnWrong => self.column += 1,
+            Verdict::RestDiffers => self.rest += 1,
         }
     }
 
     fn differ(&self) -> usize {
-        self.number + self.bytes + self.column
+        self.number + self.rest
     }
 }
 
@@ -55,12 +53,9 @@ fn run_all(text: &str) -> (BTreeMap<String, Count>, usize) {
 }
 
 fn print_table(counts: &BTreeMap<String, Count>, unread: usize) {
-    println!("call         lines  number  bytes  column");
+    println!("call         lines  number   rest");
     for (call, c) in counts {
-        println!(
-            "{call:<11} {:>6} {:>7} {:>6} {:>7}",
-            c.lines, c.number, c.bytes, c.column
-        );
+        println!("{call:<11} {:>6} {:>7} {:>6}", c.lines, c.number, c.rest);
     }
     println!("lines that could not be tried: {unread}");
 }
