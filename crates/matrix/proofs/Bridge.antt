@@ -19,14 +19,13 @@ use Rattle.base.proofs.Seq.{getD-tabulate, getD-tabulate-past}
 use Rattle.field.specs.Field.{IsByte, Bytes, add, mul}
 use Rattle.field.specs.FiniteSum.{sum}
 use Rattle.field.proofs.Addition.{add-self, add-zero-left, add-zero-right, add-zero-eq, add-eq-zero}
-use Rattle.field.proofs.Multiplication.{mul-add-right}
-use Rattle.field.proofs.FiniteSum.{sum-ext, sum-add, sum-split}
+use Rattle.field.proofs.FiniteSum.{sum-ext, sum-split}
 use Rattle.matrix.specs.Matrix.{Vector, entry, apply, column, IsInverse, Dependent, FirstDependent}
 use Rattle.matrix.specs.Product.{unit}
 use Rattle.matrix.specs.Working.{grid, Loaded, Kills, Units, Reduced, StuckAt}
-use Rattle.matrix.proofs.Identity.{unit-other, unit-sum, sum-unit, unit-sum-before}
+use Rattle.matrix.proofs.Identity.{unit-other, unit-sum, sum-plus-unit, unit-sum-before}
 use Rattle.matrix.proofs.RowOperations.{against}
-use Rattle.matrix.proofs.Laws.{Relation, relation, vector-tabulate, length-column, column-at, apply-entry, apply-tabulate, apply-is, apply-at}
+use Rattle.matrix.proofs.Laws.{Relation, relation, vector-tabulate, length-column, column-at, apply-given, apply-is, apply-at}
 
 loaded-against : (s : ℕ) (m w : List ℕ) → Loaded s m w → (z : ℕ → ℕ) (i : ℕ) → i < s → IsByte (z (s + i))
     → against s w i z ≡ add (sum s (λ k. mul (entry s m i k) (z k))) (z (s + i))
@@ -111,24 +110,17 @@ module _ (s j : ℕ) (m start end : List ℕ) (loaded : Loaded s m start) (stuck
   kernel : ℕ → ℕ
   kernel k = add (above k) (unit k j)
 
-  split-kernel : (n : ℕ) (f : ℕ → ℕ) → j < n → IsByte (f j)
-      → sum n (λ k. mul (f k) (kernel k)) ≡ add (sum n (λ k. mul (f k) (above k))) (f j)
-  unfolding kernel
-  split-kernel n f hj byte =
-      sum-ext n (λ k. mul (f k) (kernel k)) (λ k. add (mul (f k) (above k)) (mul (f k) (unit k j))) (λ k hk. mul-add-right (f k) (above k) (unit k j))
-      ∙ sum-add n (λ k. mul (f k) (above k)) (λ k. mul (f k) (unit k j))
-      ∙ ap (add (sum n (λ k. mul (f k) (above k)))) (sum-unit n j f hj byte)
-
   above-against : (i : ℕ) → i < s → against s end i above ≡ grid end i j
   above-against i hi =
       unit-sum-before (s + s) j i (grid end i) above (λ k low. stuck .reduced .units i k hi low) (λ k hk. above-high k) (omega arith) (above-byte i)
       ∙ above-row i hi
 
   killed : Kills s start kernel
+  unfolding kernel
   killed =
       stuck .reduced .same kernel .1
       (λ i hi.
-      split-kernel (s + s) (grid end i) (omega (arith, stuck .within)) (stuck .bytes (i * 64 + j))
+      sum-plus-unit (s + s) j (grid end i) above (omega (arith, stuck .within)) (stuck .bytes (i * 64 + j))
       ∙ ap (λ (x : ℕ). add x (grid end i j)) (above-against i hi)
       ∙ add-self (grid end i j))
 
@@ -143,22 +135,17 @@ module _ (s j : ℕ) (m start end : List ℕ) (loaded : Loaded s m start) (stuck
       ∙ sym (loaded-against s m start loaded kernel i hi (subst IsByte (sym (kernel-right i)) (zero-lt-suc 255)))
       ∙ killed i hi
 
-  apply-given : (f : ℕ → ℕ) (v : List ℕ) → length v ≡ s → ((i : ℕ) → i < s → sum s (λ k. mul (entry s m i k) (f k)) ≡ getD v i 0)
-      → apply s m (tabulate s f) ≡ v
-  apply-given f v e h =
-      apply-is s m (tabulate s f) v e (λ i hi. sym (apply-entry s m (tabulate s f) i hi) ∙ apply-tabulate s m f i hi ∙ h i hi)
-
   here : Dependent s m j
-  unfolding entry
+  unfolding entry kernel
   here =
       record {
         multiples = tabulate s above;
         sized = vector-tabulate s above above-byte;
         before = λ k high. ⊎-elim (λ hk. getD-tabulate s above k hk ∙ above-high k high) (getD-tabulate-past s above k) (lt-or k s);
         combined =
-            apply-given above (column s m j) (length-column s m j)
+            apply-given s m above (column s m j) (length-column s m j)
             (λ i hi.
-            add-zero-eq _ _ (sym (split-kernel s (entry s m i) (stuck .within) (hm (i * s + j))) ∙ kernel-row i hi)
+            add-zero-eq _ _ (sym (sum-plus-unit s j (entry s m i) above (stuck .within) (hm (i * s + j))) ∙ kernel-row i hi)
             ∙ sym (column-at s m j i hi));
       }
 
@@ -167,17 +154,16 @@ module _ (s j : ℕ) (m start end : List ℕ) (loaded : Loaded s m start) (stuck
   none-before i low d =
       let hi : i < s = omega (arith, stuck .within) in
       let r = relation s m i hi d in
-      let kept : against s end i (λ k. getD (r .vector) k 0) ≡ getD (r .vector) i 0 =
-      unit-sum-before (s + s) j i (grid end i) (λ k. getD (r .vector) k 0) (λ k hk. stuck .reduced .units i k hi hk) (λ k hk high. r .after k (omega arith))
-      (omega arith) (r .sized .bytes i) in
-      let none : against s end i (λ k. getD (r .vector) k 0) ≡ 0 = stuck .reduced .same (λ k. getD (r .vector) k 0) .0 (start-kills r) i hi in
+      let kept : against s end i (r .vector) ≡ r .vector i =
+      unit-sum-before (s + s) j i (grid end i) (r .vector) (λ k low. stuck .reduced .units i k hi low) (λ k hk high. r .after k (omega arith)) (omega arith)
+      (r .bytes i) in
+      let none : against s end i (r .vector) ≡ 0 = stuck .reduced .same (r .vector) .0 (start-kills r) i hi in
       omega (arith, r .own)
     where
-      start-kills : (r : Relation s m i) → Kills s start (λ k. getD (r .vector) k 0)
+      start-kills : (r : Relation s m i) → Kills s start (r .vector)
       start-kills r h hh =
-          let past = r .after (s + h) (omega (arith, stuck .within)) in
-          loaded-against s m start loaded (λ k. getD (r .vector) k 0) h hh (subst IsByte (sym past) (zero-lt-suc 255))
-          ∙ ap₂ add (r .taken h hh) past ∙ add-self 0
+          loaded-against s m start loaded (r .vector) h hh (r .bytes (s + h)) ∙ ap₂ add (r .taken h hh) (r .after (s + h) (omega (arith, stuck .within)))
+          ∙ add-self 0
 
   pub dependent : FirstDependent s m (j + 1)
   dependent = record { place = j; counted = add-one j; within = stuck .within; here = here; none-before = none-before }

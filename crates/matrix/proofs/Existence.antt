@@ -1,7 +1,8 @@
 -- A square matrix of bytes, of any side, has an inverse or a first dependent column: so one that takes no vector but 00 to 00 has an inverse, and `invert` has an
--- answer to everything. Induction on the columns that are not yet the identity's. Let d be the first of them, column t. Where d is zero from row t on, it is the sum of the
--- columns before it, each times d's entry, and none of these is such a sum. Else a linear form f that is 0 on the columns before, not 0 on e, column t of the identity, and 1 on d makes a map
--- x ↦ x + f(x)·(d + e): it keeps the columns before, takes d to e, and is one to one, since f takes its value to f(e)·f(x). Assumes nothing.
+-- answer to everything. Induction on the columns that are not yet the identity's. Let d be the first of them, column t. Where d is zero from row t on, it is the sum of
+-- the columns before it, each times d's entry, and none of these is such a sum. Else a linear form f that is 0 on the columns before, not 0 on e, column t of the
+-- identity, and 1 on d makes a map x ↦ x + f(x)·(d + e): it keeps the columns before, takes d to e, and is one to one, since f takes its value to f(e)·f(x).
+-- Assumes nothing.
 use mathlib.Core.Path.{_≡_, refl, sym, ap, ap₂, _∙_, subst}
 use mathlib.Core.List.{List}
 use mathlib.Core.Logic.{_⊎_, inl, inr, ⊎-elim}
@@ -26,7 +27,7 @@ use Rattle.matrix.specs.Invert.{InvertPost}
 use Rattle.matrix.specs.Product.{unit, identity, product}
 use Rattle.matrix.specs.declared.Inversion.{Inversion}
 use Rattle.matrix.specs.declared.Inversion.the-variants.{Inverted, Singular as SingularAt, Refused}
-use Rattle.matrix.proofs.Identity.{unit-same, unit-other, unit-byte, unit-sum, sum-unit, unit-sum-before}
+use Rattle.matrix.proofs.Identity.{unit-same, unit-other, unit-byte, unit-sum, sum-unit, sum-plus-unit, unit-sum-before}
 use Rattle.matrix.proofs.Laws as L
 use Rattle.matrix.proofs.Answers.{refused-side, refused-lengths, answered-inverse, answered-singular}
 
@@ -74,10 +75,7 @@ record Form (s t : ℕ) (d f : ℕ → ℕ) : Type 0 where
 module _ (s t : ℕ) (d f : ℕ → ℕ) (h : Form s t d f) where
   form-rise : form s f (rise t d) ≡ add 1 (f t)
   unfolding rise
-  form-rise =
-      sum-ext s (λ k. mul (f k) (rise t d k)) (λ k. add (mul (f k) (d k)) (mul (f k) (unit k t))) (λ k hk. mul-add-right (f k) (d k) (unit k t))
-      ∙ sum-add s (λ k. mul (f k) (d k)) (λ k. mul (f k) (unit k t))
-      ∙ ap₂ add (h .one) (sum-unit s t f (h .within) (h .bytes t))
+  form-rise = sum-plus-unit s t f d (h .within) (h .bytes t) ∙ ap (λ (x : ℕ). add x (f t)) (h .one)
 
   form-step : (z : ℕ → ℕ) → form s f (λ k. add (z k) (mul (rise t d k) (form s f z))) ≡ mul (f t) (form s f z)
   form-step z =
@@ -212,7 +210,8 @@ module _ (s t : ℕ) (m : List ℕ) (hm : Bytes m) (first : First s t m) where
         before = λ k high. ⊎-elim (λ hk. zeros k hk high) (λ past. List·getD-eq-default (column s m t) 0 (omega (arith, L.length-column s m t))) (lt-or k s);
         combined =
             L.apply-is s m (column s m t) (column s m t) (L.length-column s m t)
-            (λ i hi. unit-sum-before s t i (entry s m i) (λ k. getD (column s m t) k 0) (λ k low. first i k hi low) zeros hi (L.column-vector s m t hm .bytes i));
+            (λ i hi.
+            unit-sum-before s t i (entry s m i) (λ k. getD (column s m t) k 0) (λ k low. first i k hi low) zeros hi (L.column-vector s m t hm .bytes i));
       }
     where
       zeros : (k : ℕ) → k < s → t ≤ k → getD (column s m t) k 0 ≡ 0

@@ -7,10 +7,10 @@ use native.Mathlib.Omega.{arith}
 use lib.Dec.{eqb}
 use borrow.Author.Tests.{eq-eqb, ne-eqb}
 use Rattle.base.proofs.Cases.{lt-or}
-use Rattle.field.specs.Field.{IsByte, mul}
+use Rattle.field.specs.Field.{IsByte, add, mul}
 use Rattle.field.specs.FiniteSum.{sum}
-use Rattle.field.proofs.Multiplication.{mul-zero-left, mul-zero-right, mul-one-left, mul-one-right}
-use Rattle.field.proofs.FiniteSum.{sum-ext, sum-one}
+use Rattle.field.proofs.Multiplication.{mul-add-right, mul-zero-left, mul-zero-right, mul-one-left, mul-one-right}
+use Rattle.field.proofs.FiniteSum.{sum-ext, sum-add, sum-one}
 use Rattle.matrix.specs.Product.{unit}
 
 pub unit-same : (i : ℕ) → unit i i ≡ 1
@@ -39,6 +39,13 @@ pub sum-unit : (n j : ℕ) (f : ℕ → ℕ) → j < n → IsByte (f j) → sum 
 sum-unit n j f hj hf =
     sum-one n j (λ k. mul (f k) (unit k j)) hj (λ k hk ne. ap (mul (f k)) (unit-other k j ne) ∙ mul-zero-right (f k))
     ∙ ap (mul (f j)) (unit-same j) ∙ mul-one-right (f j) hf
+
+-- against z with 1 added at place j
+pub sum-plus-unit : (n j : ℕ) (f z : ℕ → ℕ) → j < n → IsByte (f j) → sum n (λ k. mul (f k) (add (z k) (unit k j))) ≡ add (sum n (λ k. mul (f k) (z k))) (f j)
+sum-plus-unit n j f z hj hf =
+    sum-ext n (λ k. mul (f k) (add (z k) (unit k j))) (λ k. add (mul (f k) (z k)) (mul (f k) (unit k j))) (λ k hk. mul-add-right (f k) (z k) (unit k j))
+    ∙ sum-add n (λ k. mul (f k) (z k)) (λ k. mul (f k) (unit k j))
+    ∙ ap (add (sum n (λ k. mul (f k) (z k)))) (sum-unit n j f hj hf)
 
 -- a row whose entries before place t are the identity's, against a vector that is 00 from there on
 pub unit-sum-before : (n t i : ℕ) (row z : ℕ → ℕ) → ((k : ℕ) → k < t → row k ≡ unit i k) → ((k : ℕ) → k < n → t ≤ k → z k ≡ 0) → i < n → IsByte (z i)

@@ -14,18 +14,18 @@ use Rattle.base.specs.Gate.{Question, firstNo}
 use Rattle.base.specs.Seq.{tabulate, cell, blocks}
 use Rattle.base.proofs.Cases.{lt-or, eq-or}
 use Rattle.base.proofs.Questions.{nay, first, stopped, past}
-use Rattle.base.proofs.Seq.{length-tabulate, getD-tabulate, getD-tabulate-past, tabulate-ext, tabulate-zeros, zeros-at, length-blocks, cell-blocks, cells-ext}
+use Rattle.base.proofs.Seq.{length-tabulate, getD-tabulate, zeros-at, length-blocks, cell-blocks, cells-ext}
 use Rattle.field.specs.Field.{IsByte, Bytes, add, mul}
 use Rattle.field.specs.FiniteSum.{sum}
-use Rattle.field.proofs.Addition.{add-byte, add-self, add-zero-left}
-use Rattle.field.proofs.Multiplication.{mul-add-right, mul-assoc, mul-byte, mul-zero-right}
-use Rattle.field.proofs.FiniteSum.{sum-byte, sum-ext, sum-zeros, sum-add, mul-sum, sum-mul, sum-exchange}
+use Rattle.field.proofs.Addition.{add-byte, add-eq-zero, add-zero-left}
+use Rattle.field.proofs.Multiplication.{mul-assoc, mul-byte, mul-zero-right}
+use Rattle.field.proofs.FiniteSum.{sum-byte, sum-ext, sum-zeros, mul-sum, sum-mul, sum-exchange}
 use Rattle.matrix.specs.Matrix.{Vector, entry, apply, column, IsInverse, Singular, Dependent, FirstDependent}
 use Rattle.matrix.specs.Invert.{number, columnNumber, Proper, sideAsked, lengthsAsked, inverseAsked, InvertPost}
-use Rattle.matrix.specs.Product.{unit, identity, product, vectorSum}
+use Rattle.matrix.specs.Product.{unit, identity, product}
 use Rattle.matrix.specs.declared.Inversion.{Inversion}
 use Rattle.matrix.specs.declared.Inversion.the-variants.{Inverted, Singular as SingularAt, Refused}
-use Rattle.matrix.proofs.Identity.{unit-same, unit-other, unit-byte, unit-sum, sum-unit, unit-sum-before}
+use Rattle.matrix.proofs.Identity.{unit-same, unit-other, unit-byte, unit-sum, sum-unit, sum-plus-unit, unit-sum-before}
 
 -- ---- lists by their entries
 
@@ -81,24 +81,17 @@ apply-tabulate s m f i hi =
     ∙ sum-ext s (λ j. mul (entry s m i j) (getD (tabulate s f) j 0)) (λ j. mul (entry s m i j) (f j))
     (λ j hj. ap (mul (entry s m i j)) (getD-tabulate s f j hj))
 
+pub apply-given : (s : ℕ) (m : List ℕ) (f : ℕ → ℕ) (v : List ℕ) → length v ≡ s
+    → ((i : ℕ) → i < s → sum s (λ k. mul (entry s m i k) (f k)) ≡ getD v i 0) → apply s m (tabulate s f) ≡ v
+apply-given s m f v e h =
+    vector-ext s (apply s m (tabulate s f)) v (length-apply s m (tabulate s f)) e (λ i hi. apply-tabulate s m f i hi ∙ h i hi)
+
 pub apply-zeros : (s : ℕ) (m : List ℕ) → apply s m (replicate s 0) ≡ replicate s 0
 apply-zeros s m =
     apply-is s m (replicate s 0) (replicate s 0) (length-replicate {A = ℕ} s 0)
     (λ i hi.
     sum-zeros s _ (λ j hj. ap (mul (entry s m i j)) (getD-replicate {A = ℕ} s j 0 0 hj) ∙ mul-zero-right (entry s m i j))
     ∙ sym (getD-replicate {A = ℕ} s i 0 0 hi))
-
-pub apply-sum : (s : ℕ) (m u v : List ℕ) → apply s m (vectorSum s u v) ≡ vectorSum s (apply s m u) (apply s m v)
-unfolding vectorSum
-apply-sum s m u v =
-    vector-ext s (apply s m (vectorSum s u v)) (vectorSum s (apply s m u) (apply s m v)) (length-apply s m (vectorSum s u v)) (length-tabulate s _)
-    (λ i hi.
-    apply-tabulate s m (λ j. add (getD u j 0) (getD v j 0)) i hi
-    ∙ sum-ext s (λ j. mul (entry s m i j) (add (getD u j 0) (getD v j 0))) (λ j. add (mul (entry s m i j) (getD u j 0)) (mul (entry s m i j) (getD v j 0)))
-    (λ j hj. mul-add-right (entry s m i j) (getD u j 0) (getD v j 0))
-    ∙ sum-add s (λ j. mul (entry s m i j) (getD u j 0)) (λ j. mul (entry s m i j) (getD v j 0))
-    ∙ sym (ap₂ add (apply-entry s m u i hi) (apply-entry s m v i hi))
-    ∙ sym (getD-tabulate s (λ i. add (getD (apply s m u) i 0) (getD (apply s m v) i 0)) i hi))
 
 -- ---- columns
 
@@ -269,60 +262,48 @@ inverse-by-products s m n en hn right left =
 
 -- column j's multiples, with 1 for the column itself: a vector that is taken to zero
 pub record Relation (s : ℕ) (m : List ℕ) (j : ℕ) : Type 0 where
-  pub vector : List ℕ
-  pub sized : Vector s vector
-  pub own : getD vector j 0 ≡ 1
-  pub after : (k : ℕ) → j < k → getD vector k 0 ≡ 0
-  pub taken : (i : ℕ) → i < s → sum s (λ k. mul (entry s m i k) (getD vector k 0)) ≡ 0
+  pub vector : ℕ → ℕ
+  pub bytes : (k : ℕ) → IsByte (vector k)
+  pub own : vector j ≡ 1
+  pub after : (k : ℕ) → j < k → vector k ≡ 0
+  pub taken : (i : ℕ) → i < s → sum s (λ k. mul (entry s m i k) (vector k)) ≡ 0
 
 pub relation : (s : ℕ) (m : List ℕ) (j : ℕ) → j < s → Dependent s m j → Relation s m j
-unfolding vectorSum
 relation s m j hj d =
     record {
-      vector = vectorSum s (d .multiples) (basis s j);
-      sized = vector-tabulate s _ (λ k. add-byte _ _ (d .sized .bytes k) (basis-vector s j .bytes k));
-      own =
-          getD-tabulate s _ j hj ∙ ap₂ add (d .before j (omega arith)) (basis-at s j j hj ∙ unit-same j) ∙ add-zero-left 1;
-      after =
-          λ k above.
-          ⊎-elim
-          (λ hk.
-          getD-tabulate s _ k hk ∙ ap₂ add (d .before k (omega arith)) (basis-at s j k hk ∙ unit-other k j (λ e. omega arith)) ∙ add-zero-left 0)
-          (getD-tabulate-past s _ k) (lt-or k s);
+      vector = λ k. add (getD (d .multiples) k 0) (unit k j);
+      bytes = λ k. add-byte (getD (d .multiples) k 0) (unit k j) (d .sized .bytes k) (unit-byte k j);
+      own = ap₂ add (d .before j (omega arith)) (unit-same j) ∙ add-zero-left 1;
+      after = λ k above. ap₂ add (d .before k (omega arith)) (unit-other k j (λ e. omega arith)) ∙ add-zero-left 0;
       taken =
           λ i hi.
-          apply-at s m (vectorSum s (d .multiples) (basis s j)) (replicate s 0) zero i hi ∙ zeros-at s i;
+          sum-plus-unit s j (entry s m i) (λ k. getD (d .multiples) k 0) hj (subst IsByte (row i hi) (sum-byte s _ (λ k hk. mul-byte _ _)))
+          ∙ add-eq-zero _ _ (row i hi);
     }
   where
-    bytes : Bytes (column s m j)
-    bytes = subst Bytes (d .combined) (apply-vector s m (d .multiples) .bytes)
-
-    zero : apply s m (vectorSum s (d .multiples) (basis s j)) ≡ replicate s 0
-    zero =
-        apply-sum s m (d .multiples) (basis s j)
-        ∙ ap (vectorSum s (apply s m (d .multiples))) (apply-basis s m j hj bytes ∙ sym (d .combined))
-        ∙ tabulate-ext s _ (λ i. 0) (λ i hi. add-self _) ∙ tabulate-zeros s
+    row : (i : ℕ) → i < s → sum s (λ k. mul (entry s m i k) (getD (d .multiples) k 0)) ≡ entry s m i j
+    row i hi = apply-at s m (d .multiples) (column s m j) (d .combined) i hi ∙ column-at s m j i hi
 
 pub dependent-singular : (s : ℕ) (m : List ℕ) (j : ℕ) → j < s → Dependent s m j → Singular s m
 dependent-singular s m j hj d =
     let r = relation s m j hj d in
     record {
-      vector = r .vector;
-      sized = r .sized;
+      vector = tabulate s (r .vector);
+      sized = vector-tabulate s (r .vector) (r .bytes);
       nonzero =
           λ e.
-          let none : getD (r .vector) j 0 ≡ 0 = ap (λ (l : List ℕ). getD l j 0) e ∙ zeros-at s j in
+          let none : r .vector j ≡ 0 = sym (getD-tabulate s (r .vector) j hj) ∙ ap (λ (l : List ℕ). getD l j 0) e ∙ zeros-at s j in
           omega (arith, r .own);
-      taken = apply-is s m (r .vector) (replicate s 0) (length-replicate {A = ℕ} s 0) (λ i hi. r .taken i hi ∙ sym (zeros-at s i));
+      taken = apply-given s m (r .vector) (replicate s 0) (length-replicate {A = ℕ} s 0) (λ i hi. r .taken i hi ∙ sym (zeros-at s i));
     }
 
--- a matrix whose first t columns are the identity's has no dependent one among them: row j's entry would be both 1 and 0
+-- a matrix whose first t columns are the identity's has no dependent one among them: row j takes such a vector to its entry j, which is 1
 pub units-free : (s t : ℕ) (m : List ℕ) → t ≤ s → ((i k : ℕ) → i < s → k < t → entry s m i k ≡ unit i k)
     → (j : ℕ) → j < t → Dependent s m j → ⊥
 units-free s t m ht units j hj d =
     let r = relation s m j (omega arith) d in
-    let none : getD (r .vector) j 0 ≡ 0 =
-    sym (unit-sum-before s t j (entry s m j) (λ k. getD (r .vector) k 0) (λ k hk. units j k (omega arith) hk) (λ k hk high. r .after k (omega arith)) (omega arith) (r .sized .bytes j))
+    let none : r .vector j ≡ 0 =
+    sym (unit-sum-before s t j (entry s m j) (r .vector) (λ k low. units j k (omega arith) low) (λ k hk high. r .after k (omega arith)) (omega arith) (r .bytes j))
     ∙ r .taken j (omega arith) in
     omega (arith, r .own)
 

@@ -1,11 +1,10 @@
--- The product of two square matrices, the identity, and the sum of two vectors, by their entries. Assumes nothing.
+-- The product of two square matrices and the identity, by their entries. Assumes nothing.
 use mathlib.Core.List.{List}
 use mathlib.Core.Bool.{cond}
 use Prim.Native.Nat.{ℕ}
 use lib.Dec.{eqb}
-use lib.ListN.{getD}
-use Rattle.base.specs.Seq.{tabulate, blocks}
-use Rattle.field.specs.Field.{add, mul}
+use Rattle.base.specs.Seq.{blocks}
+use Rattle.field.specs.Field.{mul}
 use Rattle.field.specs.FiniteSum.{sum}
 use Rattle.matrix.specs.Matrix.{entry}
 
@@ -19,7 +18,3 @@ identity s = blocks s s unit
 -- Row i of m against column j of n.
 unfoldable pub product : ℕ → List ℕ → List ℕ → List ℕ
 product s m n = blocks s s (λ i j. sum s (λ k. mul (entry s m i k) (entry s n k j)))
-
--- The sum of two vectors of s entries.
-unfoldable pub vectorSum : ℕ → List ℕ → List ℕ → List ℕ
-vectorSum s u v = tabulate s (λ i. add (getD u i 0) (getD v i 0))
