@@ -15,7 +15,7 @@ use Rattle.matrix.specs.Matrix.{entry, apply, column, IsInverse, Depende
 use Rattle.matrix.specs.Invert.{InvertPost}
 use Rattle.matrix.specs.Product.{unit, identity, product}
 use Rattle.matrix.specs.declared.Inversion.the-variants.{Inverted, Singular as SingularAt}
-use Rattle.matrix.proofs.Laws.{inverse-by-products, apply-at, column-at}
+use Rattle.matrix.proofs.Laws.{inverse-by-products, apply-at, column-at, zero-dependent}
 use Rattle.matrix.proofs.Answers.{answered-inverse, answered-singular}
 
 -- a byte, and 00 behind it
@@ -36,21 +36,9 @@ two-answered a =
 -- ---- no inverse
 
 -- column 1 is 00
-first-is-zero : (s : ℕ) (m : List ℕ) → 1 ≤ s → apply s m (replicate s 0) ≡ column s m 0 → FirstDependent s m 1
-first-is-zero s m low combined =
-    record {
-      place = 0;
-      counted = refl;
-      within = low;
-      here =
-          record {
-            multiples = replicate s 0;
-            sized = record { count = length-replicate {A = ℕ} s 0; bytes = λ i. omega (arith, zeros-at s i) };
-            before = λ k _. zeros-at s k;
-            combined = combined;
-          };
-      none-before = λ j none. absurd (not-suc-le-zero none);
-    }
+first-is-zero : (s : ℕ) (m : List ℕ) → 1 ≤ s → column s m 0 ≡ replicate s 0 → FirstDependent s m 1
+first-is-zero s m low e =
+    record { place = 0; counted = refl; within = low; here = zero-dependent s m 0 e; none-before = λ j none. absurd (not-suc-le-zero none) }
 
 -- a column that is not 00 is no sum of no columns
 first-is-free : (s : ℕ) (m : List ℕ) (i j : ℕ) → i < s → (entry s m i 0 ≡ 0 → ⊥) → j < 1 → Dependent s m j → ⊥
@@ -84,29 +72,26 @@ second-is-multiple n m a i low byte combined hi some =
 
 -- 00
 pub zero-refused : (old : List ℕ) → length old ≡ 1 → InvertPost 1 (0 ∷ []) old (SingularAt 1) old
-unfolding apply column tabulate sum entry mul
+unfolding column tabulate entry
 zero-refused old e =
-    answered-singular 1 (0 ∷ []) old (record { low = omega arith; high = omega arith; matrix = refl; buffer = e }) 1
-    (first-is-zero 1 (0 ∷ []) (omega arith) refl)
+    answered-singular _ _ old (record { low = omega arith; high = omega arith; matrix = refl; buffer = e }) _ (first-is-zero _ _ (omega arith) refl)
 
 -- 00 01 / 00 01: column 1, which is 00
 pub zero-column-refused : (old : List ℕ) → length old ≡ 4 → InvertPost 2 (0 ∷ 1 ∷ 0 ∷ 1 ∷ []) old (SingularAt 1) old
-unfolding apply column tabulate sum entry mul
+unfolding column tabulate entry
 zero-column-refused old e =
-    answered-singular 2 (0 ∷ 1 ∷ 0 ∷ 1 ∷ []) old (record { low = omega arith; high = omega arith; matrix = refl; buffer = e }) 1
-    (first-is-zero 2 (0 ∷ 1 ∷ 0 ∷ 1 ∷ []) (omega arith) refl)
+    answered-singular _ _ old (record { low = omega arith; high = omega arith; matrix = refl; buffer = e }) _ (first-is-zero _ _ (omega arith) refl)
 
 -- 01 01 / 01 01: column 2, since column 1 is a multiple of a later one only
 pub equal-columns-refused : (old : List ℕ) → length old ≡ 4 → InvertPost 2 (1 ∷ 1 ∷ 1 ∷ 1 ∷ []) old (SingularAt 2) old
 unfolding apply column tabulate sum entry mul
 equal-columns-refused old e =
-    answered-singular 2 (1 ∷ 1 ∷ 1 ∷ 1 ∷ []) old (record { low = omega arith; high = omega arith; matrix = refl; buffer = e }) 2
-    (second-is-multiple 1 (1 ∷ 1 ∷ 1 ∷ 1 ∷ []) 1 0 (omega arith) (omega arith) refl (omega arith) (λ z. omega (arith, z)))
+    answered-singular _ _ old (record { low = omega arith; high = omega arith; matrix = refl; buffer = e }) _
+    (second-is-multiple 1 _ 1 0 (omega arith) (omega arith) refl (omega arith) (λ z. omega (arith, z)))
 
 -- 01 00 00 / 00 00 01 / 00 00 01: column 2, which is 00
-pub zero-second-refused : (old : List ℕ) → length old ≡ 9
-    → InvertPost 3 (1 ∷ 0 ∷ 0 ∷ 0 ∷ 0 ∷ 1 ∷ 0 ∷ 0 ∷ 1 ∷ []) old (SingularAt 2) old
+pub zero-second-refused : (old : List ℕ) → length old ≡ 9 → InvertPost 3 (1 ∷ 0 ∷ 0 ∷ 0 ∷ 0 ∷ 1 ∷ 0 ∷ 0 ∷ 1 ∷ []) old (SingularAt 2) old
 unfolding apply column tabulate sum entry mul
 zero-second-refused old e =
-    answered-singular 3 (1 ∷ 0 ∷ 0 ∷ 0 ∷ 0 ∷ 1 ∷ 0 ∷ 0 ∷ 1 ∷ []) old (record { low = omega arith; high = omega arith; matrix = refl; buffer = e }) 2
-    (second-is-multiple 2 (1 ∷ 0 ∷ 0 ∷ 0 ∷ 0 ∷ 1 ∷ 0 ∷ 0 ∷ 1 ∷ []) 0 0 (omega arith) (omega arith) refl (omega arith) (λ z. omega (arith, z)))
+    answered-singular _ _ old (record { low = omega arith; high = omega arith; matrix = refl; buffer = e }) _
+    (second-is-multiple 2 _ 0 0 (omega arith) (omega arith) refl (omega arith) (λ z. omega (arith, z)))

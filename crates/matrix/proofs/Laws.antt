@@ -260,6 +260,16 @@ inverse-by-products s m n en hn right left =
 
 -- ---- dependent columns
 
+-- "a column of 00 counts", wherever it stands
+pub zero-dependent : (s : ℕ) (m : List ℕ) (j : ℕ) → column s m j ≡ replicate s 0 → Dependent s m j
+zero-dependent s m j e =
+    record {
+      multiples = replicate s 0;
+      sized = record { count = length-replicate {A = ℕ} s 0; bytes = λ k. omega (arith, zeros-at s k) };
+      before = λ k high. zeros-at s k;
+      combined = apply-zeros s m ∙ sym e;
+    }
+
 -- column j's multiples, with 1 for the column itself: a vector that is taken to zero
 pub record Relation (s : ℕ) (m : List ℕ) (j : ℕ) : Type 0 where
   pub vector : ℕ → ℕ
