@@ -7,7 +7,7 @@ use mathlib.Core.Logic.{_↔_, ⊎-elim}
 use Prim.Native.Nat.{ℕ, zero, suc, _+_, _*_, _/_, _%_, _≤_, _<_}
 use native.Mathlib.Nat.{zero-lt-suc}
 use native.Mathlib.Omega.{arith}
-use lib.ListN.{length, getD, replicate, length-replicate, getD-replicate, List·getD-eq-default}
+use lib.ListN.{length, getD, replicate, length-replicate, List·getD-eq-default}
 use lib.Seq.{ext-getD}
 use borrow.Author.Tests.{le-leb, eq-eqb}
 use Rattle.base.specs.Gate.{Question, firstNo}
@@ -89,9 +89,7 @@ apply-given s m f v e h =
 pub apply-zeros : (s : ℕ) (m : List ℕ) → apply s m (replicate s 0) ≡ replicate s 0
 apply-zeros s m =
     apply-is s m (replicate s 0) (replicate s 0) (length-replicate {A = ℕ} s 0)
-    (λ i hi.
-    sum-zeros s _ (λ j hj. ap (mul (entry s m i j)) (getD-replicate {A = ℕ} s j 0 0 hj) ∙ mul-zero-right (entry s m i j))
-    ∙ sym (getD-replicate {A = ℕ} s i 0 0 hi))
+    (λ i hi. sum-zeros s _ (λ j hj. ap (mul (entry s m i j)) (zeros-at s j) ∙ mul-zero-right (entry s m i j)) ∙ sym (zeros-at s i))
 
 -- ---- columns
 
