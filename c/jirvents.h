@@ -89,7 +89,7 @@ uint32_t jirvents_check(size_t k, size_t r, size_t w, size_t n, size_t b, const 
 uint32_t jirvents_view(size_t k, size_t r, size_t w, size_t n, size_t b, const uint8_t *codeword, size_t codeword_len, uint8_t node, size_t *start);
 
 /* Writes the inverse of a square matrix over the field, stored by rows, side*side bytes each. With answer 15 *column becomes the first column, counted from 1,
- * that is a sum of multiples of those before it (a column of 00 is one): the same for all who test one matrix. Questions 16, 6, 15. */
+ * that is a sum of multiples of those before it (a column of 00 counts): the same for all who test one matrix. Questions 16, 6, 15. */
 uint32_t jirvents_invert(size_t side, const uint8_t *matrix, size_t matrix_len, uint8_t *out, size_t out_len, size_t *column);
 
 #ifdef __cplusplus

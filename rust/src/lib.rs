@@ -143,8 +143,8 @@ pub enum InvertError {
     /// Question 16 or 6 was answered no.
     Refused(Refusal),
     /// The matrix has no inverse, question 15: this column, counted from 1, is
-    /// the first that is a sum of multiples of those before it. A column of 00 is
-    /// one.
+    /// the first that is a sum of multiples of those before it. A column of 00
+    /// counts.
     Singular {
         /// The column.
         column: usize,

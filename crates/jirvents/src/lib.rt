@@ -212,7 +212,7 @@ pub extern "C" fn jirvents_view(
     0
 }
 
-// Writes the inverse of the matrix of the given side. Where the answer is 15, column becomes the first column that is a sum of multiples of those before it.
+// Writes the inverse of the matrix of the given side. Where the answer is 15, column becomes the first column that is a sum of multiples of those before it (a column of 00 counts).
 #[no_mangle]
 pub extern "C" fn jirvents_invert(
     side: usize,

@@ -84,7 +84,7 @@ demand-1 =
 
 -- 2. "Every block, view, reading, difference, check, .. rebuilt block and rearranged record is what .. document 01 fixes": a call's answer, every byte of its
 -- buffer and every serial are settled by its post-condition. Some answer and lists meet it, where the slices lent hold bytes (as by their type they do), and no
--- other does. Of an inverse the answer has the column of 15 in it (document 02, 2026-05).
+-- other does. Of an inverse the whole answer is settled, the column of 15 with it (document 02, 2026-05).
 abbrev pub Settled : Type 0 → (ℕ → List ℕ → Type 0) → Type 0
 Settled BytesLent P = (BytesLent → Met P) × Once P
 

@@ -112,7 +112,7 @@ module _ (s j : ℕ) (m start end : List ℕ) (loaded : Loaded s m start) (stuck
 
   above-against : (i : ℕ) → i < s → against s end i above ≡ grid end i j
   above-against i hi =
-      unit-sum-before (s + s) j i (grid end i) above (λ k low. stuck .reduced .units i k hi low) (λ k hk. above-high k) (omega arith) (above-byte i)
+      unit-sum-before (s + s) j i (grid end i) above (λ k low. stuck .reduced .units i k hi low) above-high (omega arith) (above-byte i)
       ∙ above-row i hi
 
   killed : Kills s start kernel
@@ -155,7 +155,7 @@ module _ (s j : ℕ) (m start end : List ℕ) (loaded : Loaded s m start) (stuck
       let hi : i < s = omega (arith, stuck .within) in
       let r = relation s m i hi d in
       let kept : against s end i (r .vector) ≡ r .vector i =
-      unit-sum-before (s + s) j i (grid end i) (r .vector) (λ k low. stuck .reduced .units i k hi low) (λ k hk high. r .after k (omega arith)) (omega arith)
+      unit-sum-before (s + s) j i (grid end i) (r .vector) (λ k low. stuck .reduced .units i k hi low) (λ k high. r .after k (omega arith)) (omega arith)
       (r .bytes i) in
       let none : against s end i (r .vector) ≡ 0 = stuck .reduced .same (r .vector) .0 (start-kills r) i hi in
       omega (arith, r .own)

@@ -19,15 +19,15 @@ use Rattle.matrix.proofs.Laws.{inverse-by-products, apply-at, column-at
 use Rattle.matrix.proofs.Answers.{answered-inverse, answered-singular}
 
 -- a byte, and 00 behind it
-bytes-cons : (a n : ℕ) → IsByte a → Bytes (a ∷ replicate n 0)
-bytes-cons a n h zero = h
-bytes-cons a n h (suc i) = omega (arith, zeros-at n i)
+byte-then-zeros : (a n : ℕ) → IsByte a → Bytes (a ∷ replicate n 0)
+byte-then-zeros a n h zero = h
+byte-then-zeros a n h (suc i) = omega (arith, zeros-at n i)
 
 -- ---- an inverse
 
 two-inverse : IsInverse 1 (2 ∷ []) (0x8e ∷ [])
 unfolding product identity blocks tabulate sum entry mul unit
-two-inverse = inverse-by-products 1 (2 ∷ []) (0x8e ∷ []) refl (bytes-cons 0x8e 0 (omega arith)) refl refl
+two-inverse = inverse-by-products 1 (2 ∷ []) (0x8e ∷ []) refl (byte-then-zeros 0x8e 0 (omega arith)) refl refl
 
 pub two-answered : (a : ℕ) → InvertPost 1 (2 ∷ []) (a ∷ []) Inverted (0x8e ∷ [])
 two-answered a =
@@ -40,7 +40,7 @@ first-is-zero : (s : ℕ) (m : List ℕ) → 1 ≤ s → column s m 0 ≡ replic
 first-is-zero s m low e =
     record { place = 0; counted = refl; within = low; here = zero-dependent s m 0 e; none-before = λ j none. absurd (not-suc-le-zero none) }
 
--- a column that is not 00 is no sum of no columns
+-- column 1 is not 00 in row i: it is no sum of no columns
 first-is-free : (s : ℕ) (m : List ℕ) (i j : ℕ) → i < s → (entry s m i 0 ≡ 0 → ⊥) → j < 1 → Dependent s m j → ⊥
 first-is-free s m i j hi some low d =
     let same : j ≡ 0 = omega arith in
@@ -59,7 +59,7 @@ second-is-multiple n m a i low byte combined hi some =
       here =
           record {
             multiples = a ∷ replicate n 0;
-            sized = record { count = ap suc (length-replicate {A = ℕ} n 0); bytes = bytes-cons a n byte };
+            sized = record { count = ap suc (length-replicate {A = ℕ} n 0); bytes = byte-then-zeros a n byte };
             before = zeros-behind;
             combined = combined;
           };
@@ -70,7 +70,7 @@ second-is-multiple n m a i low byte combined hi some =
     zeros-behind zero h = absurd (not-suc-le-zero h)
     zeros-behind (suc k) h = zeros-at n k
 
--- 00
+-- 00: column 1
 pub zero-refused : (old : List ℕ) → length old ≡ 1 → InvertPost 1 (0 ∷ []) old (SingularAt 1) old
 unfolding column tabulate entry
 zero-refused old e =

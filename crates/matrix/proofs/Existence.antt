@@ -10,12 +10,12 @@ use Prim.Native.Nat.{ℕ, zero, suc, _+_, _*_, _-_, _≤_, _<_}
 use native.Mathlib.Nat.{not-suc-le-zero}
 use native.Mathlib.Omega.{arith}
 use native.Mathlib.Decide.{ℕ-discrete}
-use lib.ListN.{length, getD, List·getD-eq-default}
+use lib.ListN.{length, getD}
 use borrow.Author.Tests.{le-leb, lt-leb, eq-eqb, ne-eqb}
 use Rattle.base.specs.Seq.{cell, blocks}
 use Rattle.base.proofs.Below.{all-below}
 use Rattle.base.proofs.Cases.{lt-or, eq-or}
-use Rattle.base.proofs.Seq.{cell-blocks}
+use Rattle.base.proofs.Seq.{cell-blocks, getD-tabulate-past}
 use Rattle.field.specs.Field.{IsByte, Bytes, add, mul}
 use Rattle.field.specs.FiniteSum.{sum}
 use Rattle.field.proofs.Addition.{add-assoc, add-byte, add-comm, add-cancel, add-self, add-zero-left, add-zero-right}
@@ -202,20 +202,20 @@ module _ (s t : ℕ) (m : List ℕ) (hm : Bytes m) (first : First s t m) where
 
   -- a column that is zero from row t on
   no-pivot : ((k : ℕ) → k < s → t ≤ k → d k ≡ 0) → Dependent s m t
-  unfolding d
+  unfolding d column
   no-pivot none =
       record {
         multiples = column s m t;
         sized = L.column-vector s m t hm;
-        before = λ k high. ⊎-elim (λ hk. zeros k hk high) (λ past. List·getD-eq-default (column s m t) 0 (omega (arith, L.length-column s m t))) (lt-or k s);
+        before = zeros;
         combined =
             L.apply-is s m (column s m t) (column s m t) (L.length-column s m t)
             (λ i hi.
             unit-sum-before s t i (entry s m i) (λ k. getD (column s m t) k 0) (λ k low. first i k hi low) zeros hi (L.column-vector s m t hm .bytes i));
       }
     where
-      zeros : (k : ℕ) → k < s → t ≤ k → getD (column s m t) k 0 ≡ 0
-      zeros k hk high = L.column-at s m t k hk ∙ none k hk high
+      zeros : (k : ℕ) → t ≤ k → getD (column s m t) k 0 ≡ 0
+      zeros k high = ⊎-elim (λ hk. L.column-at s m t k hk ∙ none k hk high) (getD-tabulate-past s _ k) (lt-or k s)
 
   module _ (f : ℕ → ℕ) (h : Form s t d f) where
     next : List ℕ
@@ -281,9 +281,9 @@ module _ (s t : ℕ) (m : List ℕ) (hm : Bytes m) (first : First s t m) where
         }
 
     -- and this one has no dependent column before the next's
-    back-first : (c : ℕ) → FirstDependent s next c → FirstDependent s m c
+    back-first-dependent : (c : ℕ) → FirstDependent s next c → FirstDependent s m c
     unfolding next
-    back-first c p =
+    back-first-dependent c p =
         record {
           place = p .place;
           counted = p .counted;
@@ -308,7 +308,7 @@ module _ (s t : ℕ) (m : List ℕ) (hm : Bytes m) (first : First s t m) where
       pivot : (j : ℕ) × (j < s - t) × (d (t + j) ≡ 0 → ⊥) × ((i : ℕ) → i < j → d (t + i) ≡ 0) → Alternative s m
       pivot (j, below, some, _) =
           let f = chosen-form s t (t + j) d (λ k. entry-byte k t) (omega arith) (omega arith) some in
-          ⊎-elim (λ n. inl (_, back-inverse _ f (n .0) (n .1))) (λ c. inr (c .0, back-first _ f (c .0) (c .1)))
+          ⊎-elim (λ n. inl (_, back-inverse _ f (n .0) (n .1))) (λ c. inr (c .0, back-first-dependent _ f (c .0) (c .1)))
           (onward (next _ f) (next-bytes _ f) (next-first _ f))
 
 -- ---- all columns

@@ -48,13 +48,13 @@ sum-plus-unit n j f z hj hf =
     ∙ ap (add (sum n (λ k. mul (f k) (z k)))) (sum-unit n j f hj hf)
 
 -- a row whose entries before place t are the identity's, against a vector that is 00 from there on
-pub unit-sum-before : (n t i : ℕ) (row z : ℕ → ℕ) → ((k : ℕ) → k < t → row k ≡ unit i k) → ((k : ℕ) → k < n → t ≤ k → z k ≡ 0) → i < n → IsByte (z i)
+pub unit-sum-before : (n t i : ℕ) (row z : ℕ → ℕ) → ((k : ℕ) → k < t → row k ≡ unit i k) → ((k : ℕ) → t ≤ k → z k ≡ 0) → i < n → IsByte (z i)
     → sum n (λ k. mul (row k) (z k)) ≡ z i
 unit-sum-before n t i row z units zeros hi byte =
     sum-ext n (λ k. mul (row k) (z k)) (λ k. mul (unit i k) (z k))
     (λ k hk.
     ⊎-elim (λ low. ap (λ (x : ℕ). mul x (z k)) (units k low))
-    (λ high. nothing (row k) (z k) (zeros k hk high) ∙ sym (nothing (unit i k) (z k) (zeros k hk high)))
+    (λ high. nothing (row k) (z k) (zeros k high) ∙ sym (nothing (unit i k) (z k) (zeros k high)))
     (lt-or k t))
     ∙ unit-sum n i z hi byte
   where

@@ -74,17 +74,13 @@ pub apply-at : (s : ℕ) (m v w : List ℕ) → apply s m v ≡ w → (i : ℕ) 
 apply-at s m v w e i hi = sym (apply-entry s m v i hi) ∙ ap (λ (l : List ℕ). getD l i 0) e
 
 -- of a vector given by its entries
-pub apply-tabulate : (s : ℕ) (m : List ℕ) (f : ℕ → ℕ) (i : ℕ) → i < s
-    → getD (apply s m (tabulate s f)) i 0 ≡ sum s (λ j. mul (entry s m i j) (f j))
-apply-tabulate s m f i hi =
-    apply-entry s m (tabulate s f) i hi
-    ∙ sum-ext s (λ j. mul (entry s m i j) (getD (tabulate s f) j 0)) (λ j. mul (entry s m i j) (f j))
-    (λ j hj. ap (mul (entry s m i j)) (getD-tabulate s f j hj))
-
 pub apply-given : (s : ℕ) (m : List ℕ) (f : ℕ → ℕ) (v : List ℕ) → length v ≡ s
     → ((i : ℕ) → i < s → sum s (λ k. mul (entry s m i k) (f k)) ≡ getD v i 0) → apply s m (tabulate s f) ≡ v
 apply-given s m f v e h =
-    vector-ext s (apply s m (tabulate s f)) v (length-apply s m (tabulate s f)) e (λ i hi. apply-tabulate s m f i hi ∙ h i hi)
+    apply-is s m (tabulate s f) v e
+    (λ i hi.
+    sum-ext s (λ k. mul (entry s m i k) (getD (tabulate s f) k 0)) (λ k. mul (entry s m i k) (f k)) (λ k hk. ap (mul (entry s m i k)) (getD-tabulate s f k hk))
+    ∙ h i hi)
 
 pub apply-zeros : (s : ℕ) (m : List ℕ) → apply s m (replicate s 0) ≡ replicate s 0
 apply-zeros s m =
@@ -189,10 +185,8 @@ basis-vector s j = vector-tabulate s (λ i. unit i j) (λ i. unit-byte i j)
 apply-basis : (s : ℕ) (m : List ℕ) (j : ℕ) → j < s → Bytes (column s m j) → apply s m (basis s j) ≡ column s m j
 unfolding basis
 apply-basis s m j hj bytes =
-    vector-ext s (apply s m (basis s j)) (column s m j) (length-apply s m (basis s j)) (length-column s m j)
-    (λ i hi.
-    apply-tabulate s m (λ i. unit i j) i hi ∙ sum-unit s j (entry s m i) hj (subst IsByte (column-at s m j i hi) (bytes i))
-    ∙ sym (column-at s m j i hi))
+    apply-given s m (λ i. unit i j) (column s m j) (length-column s m j)
+    (λ i hi. sum-unit s j (entry s m i) hj (subst IsByte (column-at s m j i hi) (bytes i)) ∙ sym (column-at s m j i hi))
 
 -- a product that takes each column of the identity to itself is the identity
 product-identity : (s : ℕ) (m n : List ℕ) → Bytes n → ((j : ℕ) → j < s → apply s m (apply s n (basis s j)) ≡ basis s j)
@@ -311,7 +305,7 @@ pub units-free : (s t : ℕ) (m : List ℕ) → t ≤ s → ((i k : ℕ) → i <
 units-free s t m ht units j hj d =
     let r = relation s m j (omega arith) d in
     let none : r .vector j ≡ 0 =
-    sym (unit-sum-before s t j (entry s m j) (r .vector) (λ k low. units j k (omega arith) low) (λ k hk high. r .after k (omega arith)) (omega arith) (r .bytes j))
+    sym (unit-sum-before s t j (entry s m j) (r .vector) (λ k low. units j k (omega arith) low) (λ k high. r .after k (omega arith)) (omega arith) (r .bytes j))
     ∙ r .taken j (omega arith) in
     omega (arith, r .own)
 

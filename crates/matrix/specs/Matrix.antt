@@ -1,4 +1,4 @@
--- Vectors and square matrices over the field, of any side (document 01, "The matrix inverse"). Assumes nothing.
+-- Vectors and square matrices over the field, of any side (document 01, "The matrix inverse"; document 02, 2026-05). Assumes nothing.
 use mathlib.Core.Path.{_≡_}
 use mathlib.Core.List.{List}
 use mathlib.Core.Logic.{_↔_}

@@ -19,7 +19,7 @@ const NO_LENGTH: u32 = 6;
 // What `invert` answers. `number` and `columnNumber` in specs/Invert.antt give each case its number and value in document 01.
 pub enum Inversion {
     Inverted,
-    // The matrix has no inverse. This column, counted from 1, is the first that is a sum of multiples of those before it; a column of 00 is one.
+    // The matrix has no inverse. This column, counted from 1, is the first that is a sum of multiples of those before it; a column of 00 counts.
     Singular(usize),
     // The first question whose answer is no: 16 or 6.
     Refused(u32),

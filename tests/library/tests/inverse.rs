@@ -106,7 +106,7 @@ fn matrices_of_known_forms() {
     }
 }
 
-/// The columns up to `place` (from 0) have 00 above the diagonal and not on it, so that
+/// The columns before `place` (from 0) have 00 above the diagonal and not on it, so that
 /// none is a sum of multiples of those before it; that at `place` is, and all behind
 /// it are whichever. Rows are then exchanged, which alters no such sum.
 #[test]
@@ -144,7 +144,7 @@ fn the_first_dependent_column_at_every_place() {
 
 /// Two who test one matrix are told one column, whatever their buffers hold.
 #[test]
-fn the_column_is_the_matrix_s_own() {
+fn the_column_depends_on_the_matrix_alone() {
     let mut rng = Rng::new(408);
     for side in 1..=32 {
         let mut bytes = rng.bytes(side * side);

@@ -1,4 +1,4 @@
-//! A reference of document 01 and of requests 2026-01, 2026-03 and 2026-04 of
+//! A reference of document 01 and of requests 2026-01 and 2026-03 to 2026-05 of
 //! document 02, written from these documents alone.
 //!
 //! It shares no method with an implementation by tables and elimination:

@@ -250,11 +250,11 @@ mod tests {
         for seed in 0..12 {
             let mut matrix = bytes(9, 700 + seed);
             for row in matrix.chunks_exact_mut(3) {
-                row[2] = field::mul(seed as u8, row[0]) ^ row[1];
-            }
-            let swap = seed as usize % 3;
-            for row in matrix.chunks_exact_mut(3) {
-                row.swap(2, swap);
+                match seed % 3 {
+                    0 => row[0] = 0,
+                    1 => row[1] = field::mul(seed as u8, row[0]),
+                    _ => row[2] = field::mul(seed as u8, row[0]) ^ row[1],
+                }
             }
             let (_, found) = inverse(3, &matrix, &mut [0; 9]);
             assert_eq!(found, first_sum(3, &matrix), "{matrix:x?}");

@@ -1,5 +1,5 @@
 //! Files of calls, a line each: the call, its arguments as name=value, an arrow,
-//! the answer, and what the buffers hold after it.
+//! the answer, what the buffers hold after it, and what is given beside it.
 
 use crate::cases::{Calls, Case, Outcome, Reference};
 use crate::pair::traps_of;
@@ -167,9 +167,13 @@ fn to_list(numbers: &[u32]) -> String {
     texts.join(",")
 }
 
+/// A trap or a column, `-` where there is none.
+fn told(value: Option<u64>) -> String {
+    value.map_or("-".to_string(), |v| v.to_string())
+}
+
 /// An outcome as a line has it behind its arrow.
 fn behind_arrow(case: &Case, outcome: &Outcome) -> String {
-    let told = |value: Option<u64>| value.map_or("-".to_string(), |v| v.to_string());
     let (name, serials) = match case {
         Case::Inverse { .. } | Case::Reading { .. } | Case::Difference { .. } => ("out", None),
         Case::Setup { .. } | Case::Change { .. } | Case::Rebuild { .. } => {
@@ -207,10 +211,8 @@ fn additions(call: &str, fields: &Fields, expected: &str) -> Parsed<(String, Str
     let accepted = expected.starts_with("0 ");
     Ok(match call {
         "inverse" => {
-            let case = fields.case(call)?;
-            let whole = behind_arrow(&case, &case.run(&Reference));
-            let (_, column) = whole.rsplit_once(' ').ok_or("no column")?;
-            (String::new(), format!(" {column}"))
+            let column = fields.case(call)?.run(&Reference).column;
+            (String::new(), format!(" column={}", told(column)))
         }
         "setup" | "rebuild" => {
             let serials = format!(" serials={}", to_list(&zeros(fields.number("n")?)));

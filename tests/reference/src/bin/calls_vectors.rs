@@ -1,5 +1,5 @@
-//! Runs each line of a file of calls and reports where the answer, or what the
-//! buffers hold after it, is not as the line has it.
+//! Runs each line of a file of calls and reports where the answer, what is given
+//! beside it, or what the buffers hold after it, is not as the line has it.
 
 use reference::cases::Reference;
 use reference::vectors::{try_line, Verdict};
