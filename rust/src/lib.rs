@@ -616,22 +616,30 @@ mod tests {
         assert_eq!(check_and_view(2, 6, 3), [(0, 3), (0, 4)]);
     }
 
-    /// The inverse of a matrix of two rows, told of this side.
-    fn inverted(side: usize, matrix: [u8; 4]) -> (u32, usize) {
-        let (mut out, mut column) = ([0; 4], 99);
-        let (from, to) = (matrix.as_ptr(), out.as_mut_ptr());
-        // SAFETY: both are four bytes long.
-        let number = unsafe { jirvents_invert(side, from, 4, to, 4, &mut column) };
+    /// The inverse of a matrix that is said to have this side: its number, and the
+    /// column; 99 stands where nothing was written.
+    fn inverted(side: usize, matrix: &[u8]) -> (u32, usize) {
+        let (mut out, mut column) = ([0; 1024], 99);
+        let (from, to, length) = (matrix.as_ptr(), out.as_mut_ptr(), matrix.len());
+        // SAFETY: no matrix here is longer than `out`.
+        let number = unsafe { jirvents_invert(side, from, length, to, length, &mut column) };
         (number, column)
     }
 
     #[test]
     fn only_question_15_gives_a_column() {
-        assert_eq!(inverted(2, [1, 0, 0, 1]), (0, 99));
-        assert_eq!(inverted(2, [0, 1, 0, 1]), (15, 1));
-        assert_eq!(inverted(2, [1, 0, 1, 0]), (15, 2));
-        assert_eq!(inverted(2, [1, 1, 1, 1]), (15, 2));
-        assert_eq!(inverted(3, [1, 0, 0, 1]), (6, 99));
-        assert_eq!(inverted(33, [1, 0, 0, 1]), (16, 99));
+        for side in 1..=32 {
+            let mut bytes = [0; 1024];
+            bytes.iter_mut().step_by(side + 1).for_each(|b| *b = 1);
+            let identity = &bytes[..side * side];
+            assert_eq!(inverted(side, identity), (0, 99));
+            assert_eq!(inverted(side, &identity[1..]), (6, 99));
+        }
+        assert_eq!(inverted(2, &[0, 1, 0, 1]), (15, 1));
+        assert_eq!(inverted(2, &[1, 0, 1, 0]), (15, 2));
+        assert_eq!(inverted(2, &[1, 1, 1, 1]), (15, 2));
+        for side in [0, 33, 1 << 32, usize::MAX] {
+            assert_eq!(inverted(side, &[1, 0, 0, 1]), (16, 99));
+        }
     }
 }

@@ -12,5 +12,6 @@ fn every_line() {
     let serials = include_str!("../../vectors/2026-03-calls.txt");
     assert_eq!(try_all(serials, &Library), Ok(400));
     let columns = include_str!("../../vectors/2026-05-calls.txt");
+    assert!(columns.lines().all(|line| line.contains(" column=")));
     assert_eq!(try_all(columns, &Library), Ok(400));
 }

@@ -235,6 +235,10 @@ mod tests {
         assert_eq!(column(3, &[1, 0, 0, 0, 0, 1, 0, 0, 1]), Some(2));
         assert_eq!(column(3, &[1, 0, 1, 0, 1, 1, 0, 0, 0]), Some(3));
         assert_eq!(column(3, &[1, 1, 1, 1, 1, 1, 1, 1, 1]), Some(2));
+        assert_eq!(column(3, &[0, 1, 1, 0, 1, 1, 0, 0, 0]), Some(1));
+        assert_eq!(column(3, &[1, 1, 0, 1, 1, 0, 1, 1, 0]), Some(2));
+        let sum_then_copy = [1, 0, 1, 1, 0, 1, 1, 0, 0, 0, 0, 0, 0, 0, 0, 0];
+        assert_eq!(column(4, &sum_then_copy), Some(3));
         assert_eq!(column(2, &[1, 1, 0, 1]), None);
     }
 
@@ -262,7 +266,7 @@ mod tests {
     }
 
     /// Columns with 00 above the diagonal and not on it are no sums of multiples of
-    /// those before them; one that is follows, and then any.
+    /// those before them; one that is follows, and then any: bytes, copies, 00.
     #[test]
     fn the_column_by_construction_at_every_place() {
         for side in 1..=32usize {
@@ -280,6 +284,13 @@ mod tests {
                     }
                     let terms = line[..place].iter().zip(&factors);
                     line[place] = terms.fold(0, |sum, (&e, &f)| sum ^ field::mul(e, f));
+                    for c in place + 1..side {
+                        match c % 3 {
+                            0 => line[c] = line[c - 1],
+                            1 => line[c] = 0,
+                            _ => {}
+                        }
+                    }
                 }
                 let answer = inverse(side as u64, &matrix, &mut vec![0; side * side]);
                 assert_eq!(answer, (15, Some(place as u64 + 1)));

@@ -36,6 +36,7 @@ fn calls() {
     let serials = include_str!("../../vectors/2026-03-calls.txt");
     assert_eq!(try_all(serials, &Reference), Ok(400));
     let columns = include_str!("../../vectors/2026-05-calls.txt");
+    assert!(columns.lines().all(|line| line.contains(" column=")));
     assert_eq!(try_all(columns, &Reference), Ok(400));
 }
 
