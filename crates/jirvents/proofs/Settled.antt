@@ -7,7 +7,7 @@ use Rattle.base.proofs.Cases.{eq-or}
 use Rattle.params.specs.declared.Params.{Params}
 use Rattle.matrix.specs.Invert.{columnNumber}
 use Rattle.matrix.specs.Invert as matrix
-use Rattle.matrix.proofs.Laws.{invert-once}
+use Rattle.matrix.proofs.Settled.{invert-once}
 use Rattle.code.specs.Calls.{number, nodeNumber}
 use Rattle.code.proofs.Determined.{check-once}
 use Rattle.jirvents.specs.Exports.{Gave, CheckGave, ViewGave, InvertGave}

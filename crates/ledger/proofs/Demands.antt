@@ -12,8 +12,8 @@ use Rattle.field.specs.Field.{Bytes}
 use Rattle.matrix.specs.Matrix.{FirstDependent}
 use Rattle.matrix.specs.Invert.{InvertPost, sideAsked, lengthsAsked, inverseAsked, number as invertNumber, columnNumber}
 use Rattle.matrix.specs.declared.Inversion.{Inversion}
-use Rattle.matrix.proofs.Laws.{invert-once, column-exactly}
 use Rattle.matrix.proofs.Existence.{invert-met}
+use Rattle.matrix.proofs.Settled.{invert-once, column-exactly}
 use Rattle.params.specs.Nodes.{has}
 use Rattle.params.specs.declared.Params.{Params}
 use Rattle.params.specs.declared.Shape.{Shape}

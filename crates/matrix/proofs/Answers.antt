@@ -6,12 +6,26 @@ use Prim.Native.Nat.{ℕ, _*_, _≤_}
 use native.Mathlib.Omega.{arith}
 use lib.Dec.{T, leb, eqb}
 use lib.ListN.{length}
-use borrow.Author.Tests.{le-leb}
+use borrow.Author.Tests.{le-leb, eq-eqb}
 use Rattle.base.specs.Gate.{Question, firstNo}
 use Rattle.matrix.specs.Matrix.{IsInverse, FirstDependent}
 use Rattle.matrix.specs.Invert.{sideAsked, lengthsAsked, inverseAsked, InvertPost}
 use Rattle.matrix.specs.declared.Inversion.the-variants.{Inverted, Singular as SingularAt, Refused}
-use Rattle.matrix.proofs.Laws.{Open, gate-open, not-singular, dependent-singular}
+use Rattle.matrix.proofs.Laws.{not-singular, dependent-singular}
+
+-- the first two questions answered yes
+pub record Open (s : ℕ) (m old : List ℕ) : Type 0 where
+  pub low : 1 ≤ s
+  pub high : s ≤ 32
+  pub matrix : length m ≡ s * s
+  pub buffer : length old ≡ s * s
+
+-- the rest decides
+pub gate-open : (s : ℕ) (m old : List ℕ) (rest : List Question) → Open s m old
+    → firstNo (sideAsked s ∷ lengthsAsked s m old ∷ rest) ≡ firstNo rest
+unfolding firstNo
+gate-open s m old rest o =
+    simp (le-leb 1 s (o .low), le-leb s 32 (o .high), eq-eqb (length m) (s * s) (o .matrix), eq-eqb (length old) (s * s) (o .buffer))
 
 refused : (s q : ℕ) (m old : List ℕ) → ((rest : List Question) → firstNo (sideAsked s ∷ lengthsAsked s m old ∷ rest) ≡ q) → (q ≡ 0 → ⊥)
     → (q ≡ 15 → ⊥) → InvertPost s m old (Refused q) old

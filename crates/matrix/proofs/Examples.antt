@@ -1,4 +1,4 @@
--- Both ends exist: the matrix 02 has the inverse 8E, and four have none, each with its first dependent column. Assumes nothing.
+-- Both ends exist: the matrix 02 has the inverse 8E, and five have none, each with its first dependent column. Assumes nothing.
 use mathlib.Core.Path.{_≡_, refl, sym, ap, _∙_}
 use mathlib.Core.List.{List, [], _∷_}
 use Prim.Native.Nat.{ℕ, zero, suc, _≤_, _<_}
@@ -93,5 +93,12 @@ equal-columns-refused old e =
 pub zero-second-refused : (old : List ℕ) → length old ≡ 9 → InvertPost 3 (1 ∷ 0 ∷ 0 ∷ 0 ∷ 0 ∷ 1 ∷ 0 ∷ 0 ∷ 1 ∷ []) old (SingularAt 2) old
 unfolding apply column tabulate sum entry mul
 zero-second-refused old e =
+    answered-singular _ _ old (record { low = omega arith; high = omega arith; matrix = refl; buffer = e }) _
+    (second-is-multiple 2 _ 0 0 (omega arith) (omega arith) refl (omega arith) (λ z. omega (arith, z)))
+
+-- 01 00 01 / 00 00 00 / 00 00 00: column 2, though column 3 is a multiple of column 1 too, and column 1 of a later one
+pub two-dependent-refused : (old : List ℕ) → length old ≡ 9 → InvertPost 3 (1 ∷ 0 ∷ 1 ∷ 0 ∷ 0 ∷ 0 ∷ 0 ∷ 0 ∷ 0 ∷ []) old (SingularAt 2) old
+unfolding apply column tabulate sum entry mul
+two-dependent-refused old e =
     answered-singular _ _ old (record { low = omega arith; high = omega arith; matrix = refl; buffer = e }) _
     (second-is-multiple 2 _ 0 0 (omega arith) (omega arith) refl (omega arith) (λ z. omega (arith, z)))

@@ -7,3 +7,4 @@ mod Bridge
 mod Answers
 pub mod Existence
 pub mod Examples
+pub mod Settled

@@ -7,9 +7,8 @@ use Rattle.field.specs.Field.{Bytes}
 use Rattle.matrix.specs.Working.{Ended}
 use Rattle.base.proofs.Seq.{zeros-at}
 use Rattle.matrix.proofs.Loading.{area}
-use Rattle.matrix.proofs.Laws.{Open}
 use Rattle.matrix.proofs.Bridge.{dependent, inverted}
-use Rattle.matrix.proofs.Answers.{refused-side, refused-lengths, answered-inverse, answered-singular}
+use Rattle.matrix.proofs.Answers.{Open, refused-side, refused-lengths, answered-inverse, answered-singular}
 use Rattle.matrix.proofs.invert.Statement.{statement}
 use Rattle.matrix.proofs.invert.Tie as tie
 
