@@ -144,7 +144,7 @@ pub enum InvertError {
     Refused(Refusal),
     /// The matrix has no inverse, question 15: this column, counted from 1, is
     /// the first that is a sum of multiples of those before it. A column of 00
-    /// counts.
+    /// counts. It is the same for all who test one matrix.
     Singular {
         /// The column.
         column: usize,

@@ -106,6 +106,24 @@ fn matrices_of_known_forms() {
     }
 }
 
+/// By hand, from the words of request 2026-05.
+#[test]
+fn the_first_dependent_column() {
+    let mut rng = Rng::new(409);
+    let rows: [(u64, &[u8], u64); 5] = [
+        (1, &[0], 1),
+        (2, &[1, 1, 1, 1], 2),
+        (2, &[0, 1, 0, 1], 1),
+        (3, &[1, 0, 0, 0, 0, 1, 0, 0, 1], 2),
+        (3, &[1, 0, 1, 0, 0, 0, 0, 0, 0], 2),
+    ];
+    for (side, bytes, column) in rows {
+        let case = case(&mut rng, side, bytes.to_vec());
+        assert_eq!(agree(&case), 15);
+        assert_eq!(case.run(&Library).column, Some(column));
+    }
+}
+
 /// The columns before `place` (from 0) have 00 above the diagonal and not on it, so that
 /// none is a sum of multiples of those before it; that at `place` is, and behind it
 /// are any bytes, copies and 00. The rows are then turned by some places, which alters
