@@ -38,14 +38,15 @@ int main(void) {
     answer = jirvents_decode(k, r, w, n, b, card, 3, 5, read, 1);
     expect("nodes 1, 3 read 02", answer == 0 && read[0] == 0x02);
 
-    uint8_t node = 9;
-    answer = jirvents_check(k, r, w, n, b, card, 3, &node);
-    expect("all blocks agree", answer == 0 && node == 0);
+    uint32_t set = 9;
+    size_t tried = 9, distance = 9;
+    answer = jirvents_check(k, r, w, n, b, card, 3, 1, &set, &tried, &distance);
+    expect("all blocks agree", answer == 0 && set == 0 && tried == 1 && distance == 0);
     card[2] = 0xFF;
-    answer = jirvents_check(k, r, w, n, b, card, 3, &node);
-    expect("node 3 is damaged", answer == 0 && node == 3);
+    answer = jirvents_check(k, r, w, n, b, card, 3, 1, &set, &tried, &distance);
+    expect("after damage they do not", answer == 0 && set == 4 && tried == 1 && distance == 0);
     answer = jirvents_repair(k, r, w, n, b, card, 3, serials, 3, 3, 4);
-    expect("and is rebuilt from 1, 2", answer == 0 && card[2] == 0x0C && are(serials, 1, 1, 1));
+    expect("node 3 is rebuilt from 1, 2", answer == 0 && card[2] == 0x0C && are(serials, 1, 1, 1));
 
     size_t start = 9;
     answer = jirvents_view(k, r, w, n, b, card, 3, 2, &start);
@@ -58,6 +59,18 @@ int main(void) {
     uint32_t next_serials[3];
     answer = jirvents_reconfigure(k, r, w, n, b, 2, 2, 3, 3, card, 3, serials, 3, 6, 7, both, 2, next, 3, next_serials, 3);
     expect("rearranged to (2,2,3,3): 00 06 06", answer == 0 && !memcmp(next, "\x00\x06\x06", 3) && are(next_serials, 1, 1, 1));
+
+    /* (1,1,3,3) has two nodes to spare, and so one damaged node is told. */
+    uint8_t alike[3];
+    answer = jirvents_encode(1, 1, 3, 3, b, message, 1, slack, 0, alike, 3, serials, 3);
+    expect("(1,1,3,3) has the record 07 0E 09", answer == 0 && !memcmp(alike, "\x07\x0E\x09", 3));
+    alike[1] = 0xFF;
+    answer = jirvents_check(1, 1, 3, 3, b, alike, 3, 10, &set, &tried, &distance);
+    expect("node 2 is to blame, the third set", answer == 0 && set == 2 && tried == 3 && distance == 0);
+    answer = jirvents_check(1, 1, 3, 3, b, alike, 3, 2, &set, &tried, &distance);
+    expect("a budget of two leaves nodes 2, 3", answer == 0 && set == 6 && tried == 2 && distance == 1);
+    answer = jirvents_check(1, 1, 3, 3, b, alike, 2, 10, &set, &tried, &distance);
+    expect("a refusal tells nothing: 6", answer == JIRVENTS_BAD_LENGTH && set == 6 && tried == 2 && distance == 1);
 
     const uint8_t two[] = {0x02}, zeros_first[] = {0, 1, 0, 1}, equal[] = {1, 1, 1, 1};
     uint8_t inverse[4] = {0};

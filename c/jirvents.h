@@ -17,9 +17,9 @@
  * that of the numbers: 1 to 5, 11 to 14, 16, 6, 7, 8, 24, 9, 10, 15.
  *
  * A slice is a pointer and a length, which counts bytes, and for serials numbers. Its pointer must be valid for that many (and not null, also for length 0),
- * that of serials also aligned for uint32_t, and slices that are written must not overlap others. The pointers node, start and column must be valid, not null,
- * and apart from every slice. No function allocates, keeps a pointer or has any state. Each takes its room on the stack: up to 62 kB (repair), 55 (check and
- * reconfigure, whatever their sizes), 54 (encode), 19 for a decode. */
+ * that of serials also aligned for uint32_t, and slices that are written must not overlap others. The pointers set, tried, distance, start and column must be
+ * valid, aligned, not null, and apart from every slice and from each other. No function allocates, keeps a pointer or has any state. Each takes its room on the stack: up to 62 kB (repair), 59
+ * (check) and 55 (reconfigure), these two whatever their sizes, 54 (encode), 19 for a decode. */
 #ifndef JIRVENTS_H
 #define JIRVENTS_H
 
@@ -81,9 +81,14 @@ uint32_t jirvents_reconfigure(size_t k, size_t r, size_t w, size_t n, size_t b, 
                               size_t codeword_len, const uint32_t *serials, size_t serials_len, uint32_t from, uint32_t to, const uint8_t *message,
                               size_t message_len, uint8_t *out, size_t out_len, uint32_t *out_serials, size_t out_serials_len);
 
-/* Compares all blocks with what those of nodes 1 to q give: with answer 0 *node becomes 0 if they agree, else the lowest node whose block differs. That need not
- * be the damaged one: with node 1 damaged it is a sound one. Questions 1 to 6. */
-uint32_t jirvents_check(size_t k, size_t r, size_t w, size_t n, size_t b, const uint8_t *codeword, size_t codeword_len, uint8_t *node);
+/* Seeks the smallest node set without which all blocks agree: one message and slack give the block of every node outside it. Sets are tried by size from 0 and
+ * within a size by number, at most budget of them (any number), and the first that serves is found. With answer 0 *set becomes that set, *tried how many were
+ * tried, *distance 0. If none of them serves, *set becomes the nodes q+1 to n, which serve as any n - q nodes do, *tried the budget, and *distance the set's size
+ * less that of the first set not tried: the set is not larger than the smallest by more. If the blocks of some message and slack differ from the codeword's at no
+ * more than (n - q)/2 nodes and the budget sufficed, the set is exactly these nodes. With more damage it may name sound ones: with n - q = 1 it is node 1,
+ * whichever node is damaged (node n if the budget is under 2). The budget bounds the time: of 32 nodes there are up to 2^32 sets to try. Questions 1 to 6. */
+uint32_t jirvents_check(size_t k, size_t r, size_t w, size_t n, size_t b, const uint8_t *codeword, size_t codeword_len, size_t budget, uint32_t *set,
+                        size_t *tried, size_t *distance);
 
 /* Where a node's block stands: with answer 0 it is the b bytes from codeword + *start on. Questions 1 to 6, 10. */
 uint32_t jirvents_view(size_t k, size_t r, size_t w, size_t n, size_t b, const uint8_t *codeword, size_t codeword_len, uint8_t node, size_t *start);

@@ -5,7 +5,7 @@ use crate::coder::Coder;
 use jirvents::Params;
 use std::hint::black_box;
 
-const fn point(k: usize, r: usize, w: usize, n: usize, b: usize) -> Params {
+pub const fn point(k: usize, r: usize, w: usize, n: usize, b: usize) -> Params {
     Params { k, r, w, n, b }
 }
 
@@ -31,7 +31,7 @@ const MATRICES: usize = 32;
 pub type Call = fn(&mut Case, &mut dyn Coder);
 
 /// The calls at a point.
-pub const CALLS: [(&str, Call); 5] = [
+pub const CALLS: [(&str, Call); 6] = [
     ("encode", |case, coder| {
         let (message, slack) = (case.message.bytes(), case.slack.bytes());
         coder.encode(black_box(case.p), message, slack, case.codeword.bytes_mut());
@@ -50,6 +50,11 @@ pub const CALLS: [(&str, Call); 5] = [
         let Sets { from, lost, .. } = case.next_sets();
         let codeword = case.codeword.bytes_mut();
         coder.repair(black_box(case.p), codeword, from, lost);
+    }),
+    ("check", |case, coder| {
+        let codeword = case.codeword.bytes();
+        let blame = coder.check(black_box(case.p), codeword, 1);
+        case.out.bytes_mut()[..4].copy_from_slice(&blame.set.to_le_bytes());
     }),
     ("reconfigure", |case, coder| {
         let Sets { from, to, .. } = case.next_sets();
@@ -86,7 +91,7 @@ pub struct Case {
 }
 
 /// Numbers that look random, the same at each run.
-struct Random(u64);
+pub struct Random(pub u64);
 
 impl Random {
     fn next(&mut self) -> u64 {
@@ -96,7 +101,7 @@ impl Random {
         self.0.wrapping_mul(0x9E37_79B9_7F4A_7C15) >> 32
     }
 
-    fn bytes(&mut self, count: usize) -> Vec<u8> {
+    pub fn bytes(&mut self, count: usize) -> Vec<u8> {
         (0..count).map(|_| self.next() as u8).collect()
     }
 
@@ -122,7 +127,8 @@ impl Random {
 }
 
 impl Case {
-    /// `out` is as long as the call that is timed writes.
+    /// `out` is as long as the call that is timed writes. A check's codeword is sound,
+    /// other calls' is any bytes.
     pub fn at(p: Params, call: &str) -> Case {
         let Params { k, r, w, n, b } = p;
         let mut random = Random(1);
@@ -132,7 +138,7 @@ impl Case {
             Sets { from, to, lost }
         });
         let out = if call == "decode" { k * b } else { n * b };
-        Case {
+        let mut case = Case {
             p,
             sets: sets.collect(),
             turn: 0,
@@ -140,7 +146,13 @@ impl Case {
             slack: Buffer::new(&random.bytes((n - w) * b)),
             codeword: Buffer::new(&random.bytes(n * b)),
             out: Buffer::new(&random.bytes(out)),
+        };
+        if call == "check" {
+            let (message, slack) = (case.message.bytes(), case.slack.bytes());
+            let (codeword, mut serials) = (case.codeword.bytes_mut(), vec![0; n]);
+            jirvents::encode(p, message, slack, codeword, &mut serials).expect("right arguments");
         }
+        case
     }
 
     /// Matrices of this side, in the place of the message.

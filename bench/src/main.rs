@@ -10,7 +10,9 @@ mod isal;
 mod jerasure;
 mod peer;
 mod plain;
+mod search;
 mod season;
+mod sets;
 mod timing;
 
 use case::{Case, CALLS, INVERT, POINTS, SIDES};
@@ -22,7 +24,7 @@ use std::process::ExitCode;
 use timing::{Coders, Row, CODERS};
 
 const USAGE: &str = "bench [--quick] [CALL | POINT]..
-Calls: encode, decode, update, repair, reconfigure, invert, season. Points: k,r,w,n, and for invert a side.
+Calls: encode, decode, update, repair, check, reconfigure, invert, season. Points: k,r,w,n, and for invert a side.
 Measures the calls named at the points named; all, if none is named.";
 
 /// How often all rows are gone through, and how many windows a row has each time.
@@ -35,7 +37,7 @@ const NAMES: [&str; CODERS] = ["Jirvents", "plain", "jerasure", "ISA-L"];
 
 fn coders() -> Coders {
     let mut coders: Coders = [const { None }; CODERS];
-    coders[0] = Some(Box::new(Library::default()));
+    coders[0] = Some(Box::new(Library::new()));
     coders[1] = Some(Box::new(Calls::new(plain::Plain::new())));
     #[cfg(jerasure)]
     {
@@ -65,7 +67,8 @@ impl Wanted {
         let is_call = |word: &str| calls.contains(&word) || ["invert", "season"].contains(&word);
         let is_point = |word: &str| {
             let side = SIDES.iter().any(|side| side.to_string() == word);
-            side || POINTS.iter().any(|&p| point_name(p) == word)
+            let mut points = POINTS.iter().chain(&search::POINTS);
+            side || points.any(|&p| point_name(p) == word)
         };
         let (quick, calls, points) = (false, Vec::new(), Vec::new());
         let mut wanted = Wanted {
@@ -155,6 +158,14 @@ fn measure(wanted: &Wanted) -> io::Result<()> {
     }
     if !rows.is_empty() {
         print_table(&rows);
+    }
+    let searched = search::POINTS.into_iter();
+    let searched: Vec<Params> = searched.filter(|&p| wanted.point(&point_name(p))).collect();
+    if wanted.call("check") && !searched.is_empty() {
+        if !rows.is_empty() {
+            println!();
+        }
+        search::measure(&searched, &mut coders, if wanted.quick { 2 } else { 10 });
     }
     if wanted.call("season") && wanted.points.is_empty() {
         season::measure(if wanted.quick { 1 } else { 3 })?;

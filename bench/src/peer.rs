@@ -4,6 +4,7 @@
 
 use crate::buffer::Buffer;
 use crate::coder::Coder;
+use crate::sets::{nodes, outside, start, without_lowest, working};
 use jirvents::Params;
 use std::ops::BitXorAssign;
 use std::ptr;
@@ -57,31 +58,6 @@ pub struct Calls<P: Peer> {
     sources: [*const u8; 32],
     targets: [*mut u8; 32],
     values: Buffer,
-}
-
-/// The nodes of a set, counted from 1.
-fn nodes(mut set: u32) -> impl Iterator<Item = u8> {
-    std::iter::from_fn(move || {
-        let node = (set != 0).then(|| set.trailing_zeros() as u8 + 1)?;
-        set &= set - 1;
-        Some(node)
-    })
-}
-
-/// The nodes 1 to n outside a set.
-fn outside(set: u32, n: usize) -> u32 {
-    !set & u32::MAX >> (32 - n)
-}
-
-/// How many parts there are, message and slack; of the nodes to read the q lowest
-/// are used.
-fn working(p: Params) -> usize {
-    p.k + p.n - p.w
-}
-
-/// Where the block of a node starts.
-fn start(node: u8, b: usize) -> usize {
-    (usize::from(node) - 1) * b
 }
 
 /// Lists parts to read.
@@ -279,6 +255,24 @@ impl<P: Peer> Coder for Calls<P> {
         let (coeffs, sources) = (&self.coeffs[..count * q], &self.sources[..q]);
         // SAFETY: blocks of the codeword, `lost` being apart from `from`.
         unsafe { self.peer.write(b, coeffs, sources, &self.targets[..count]) }
+    }
+
+    fn agrees(&mut self, p: Params, codeword: &[u8], set: u32) -> bool {
+        let (q, b) = (working(p), p.b);
+        let rest = outside(set, p.n);
+        let further = without_lowest(rest, q);
+        if further == 0 {
+            return true;
+        }
+        let count = self.carry(q, rest, further);
+        list_blocks(codeword, rest, b, &mut self.sources);
+        let values = self.values.bytes_mut();
+        list_blocks_mut(values, outside(0, count), b, &mut self.targets);
+        let (coeffs, sources) = (&self.coeffs[..count * q], &self.sources[..q]);
+        // SAFETY: the codeword's blocks and those of a buffer of its own.
+        unsafe { self.peer.write(b, coeffs, sources, &self.targets[..count]) }
+        let mut values = self.values.bytes().chunks_exact(b).zip(nodes(further));
+        values.all(|(value, node)| *value == codeword[start(node, b)..][..b])
     }
 
     fn reconfigure(

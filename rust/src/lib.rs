@@ -30,7 +30,7 @@
 //! 62 kB.
 //!
 //! ```
-//! use jirvents::{decode, encode, repair, update, view, Params};
+//! use jirvents::{check, decode, encode, repair, update, view, Params};
 //!
 //! let p = Params { k: 1, r: 2, w: 2, n: 3, b: 1 };
 //! let (mut codeword, mut serials) = ([0; 3], [0; 3]);
@@ -54,6 +54,11 @@
 //!
 //! let refusal = view(p, &codeword, 4).unwrap_err();
 //! assert_eq!(refusal.to_string(), "question 10: is the node from 1 to n?");
+//!
+//! // With two nodes to spare, a damaged one is told: node 2, the third set tried.
+//! let p = Params { k: 1, r: 1, w: 3, n: 3, b: 1 };
+//! let blame = check(p, &[0x07, 0xFF, 0x09], 10)?;
+//! assert_eq!((blame.set, blame.tried, blame.distance), (0b010, 3, 0));
 //! # Ok::<(), jirvents::Refusal>(())
 //! ```
 
@@ -136,6 +141,18 @@ impl fmt::Display for Refusal {
 }
 
 impl Error for Refusal {}
+
+/// Which nodes are to blame, as [`check`] tells.
+#[derive(Clone, Copy, Debug, PartialEq, Eq)]
+pub struct Blame {
+    /// A node set without which all blocks agree.
+    pub set: u32,
+    /// How many sets were tried.
+    pub tried: usize,
+    /// The set's size is above the smallest by this at most: 0 if the set was found,
+    /// else its size less that of the first set not tried.
+    pub distance: usize,
+}
 
 /// Why [`invert`] wrote nothing.
 #[derive(Clone, Copy, Debug, PartialEq, Eq)]
@@ -277,7 +294,7 @@ mod raw {
             out_serials_len: usize,
         ) -> u32;
 
-        /// Writes `node` with answer 0 only.
+        /// Writes `set`, `tried` and `distance` with answer 0 only.
         pub fn jirvents_check(
             k: usize,
             r: usize,
@@ -286,7 +303,10 @@ mod raw {
             b: usize,
             codeword: *const u8,
             codeword_len: usize,
-            node: *mut u8,
+            budget: usize,
+            set: *mut u32,
+            tried: *mut usize,
+            distance: *mut usize,
         ) -> u32;
 
         /// Writes `start` with answer 0 only.
@@ -515,15 +535,26 @@ pub fn reconfigure(
     })
 }
 
-/// Compares all blocks of `codeword` (n·b bytes) with what those of the nodes 1
-/// to q give: `None` if they agree, else the lowest node that differs. That need
-/// not be the damaged one: with node 1 damaged it is a sound one.
+/// Seeks the smallest node set without which the blocks of `codeword` (n·b bytes)
+/// agree: one message and slack give the block of every node outside it. Sets are
+/// tried by size from 0 and within a size by number, at most `budget` of them, and
+/// the first that serves is given. If none of these does, the set is the nodes q+1
+/// to n, which serve as any n - q nodes do, and may be larger than the smallest by
+/// [`distance`](Blame::distance).
+///
+/// If the blocks of some message and slack differ from the codeword's at no more
+/// than (n - q)/2 nodes and the budget sufficed, the set is exactly these nodes. With
+/// more damage it may name sound ones: with n - q = 1 it is node 1, whichever node is
+/// damaged (node n if the budget is under 2).
+///
+/// Any budget may be given. It bounds the time: of 32 nodes there are up to 2^32
+/// sets to try.
 ///
 /// Puts the questions 1 to 6.
-pub fn check(p: Params, codeword: &[u8]) -> Result<Option<u8>, Refusal> {
-    let mut node = 0;
+pub fn check(p: Params, codeword: &[u8], budget: usize) -> Result<Blame, Refusal> {
+    let (mut set, mut tried, mut distance) = (0, 0, 0);
     // SAFETY: the pointer and length are those of a slice borrowed for the call,
-    // and `node` is a local.
+    // and `set`, `tried` and `distance` are locals.
     served(unsafe {
         raw::jirvents_check(
             p.k,
@@ -533,10 +564,17 @@ pub fn check(p: Params, codeword: &[u8]) -> Result<Option<u8>, Refusal> {
             p.b,
             codeword.as_ptr(),
             codeword.len(),
-            &mut node,
+            budget,
+            &mut set,
+            &mut tried,
+            &mut distance,
         )
     })?;
-    Ok((node != 0).then_some(node))
+    Ok(Blame {
+        set,
+        tried,
+        distance,
+    })
 }
 
 /// The block of one node, counted from 1: b of the n·b bytes of `codeword`.
@@ -591,29 +629,69 @@ pub fn invert(side: usize, matrix: &[u8], out: &mut [u8]) -> Result<(), InvertEr
 mod tests {
     use super::raw::{jirvents_check, jirvents_invert, jirvents_view};
 
-    /// Check and view at (1,2,2,3) with this b, on a codeword of this length; 99 stands
-    /// where nothing was written.
-    fn check_and_view(b: usize, length: usize, node: u8) -> [(u32, usize); 2] {
-        let codeword = [7; 8];
-        let (mut differing, mut start) = (99, 99);
+    /// View at (1,2,2,3) with this b, on a codeword of this length; 99 stands where
+    /// nothing was written.
+    fn viewed(b: usize, length: usize, node: u8) -> (u32, usize) {
+        let (codeword, mut start) = ([7; 8], 99);
+        let from = codeword.as_ptr();
         // SAFETY: `length` is at most that of the codeword.
-        let numbers = unsafe {
-            let (codeword, differing) = (codeword.as_ptr(), &mut differing);
-            [
-                jirvents_check(1, 2, 2, 3, b, codeword, length, differing),
-                jirvents_view(1, 2, 2, 3, b, codeword, length, node, &mut start),
-            ]
-        };
-        [(numbers[0], usize::from(differing)), (numbers[1], start)]
+        let number = unsafe { jirvents_view(1, 2, 2, 3, b, from, length, node, &mut start) };
+        (number, start)
     }
 
     #[test]
-    fn a_refusal_leaves_node_and_start() {
-        assert_eq!(check_and_view(0, 6, 1), [(5, 99), (5, 99)]);
-        assert_eq!(check_and_view(2, 7, 1), [(6, 99), (6, 99)]);
-        assert_eq!(check_and_view(2, 6, 0), [(0, 3), (10, 99)]);
-        assert_eq!(check_and_view(2, 6, 4), [(0, 3), (10, 99)]);
-        assert_eq!(check_and_view(2, 6, 3), [(0, 3), (0, 4)]);
+    fn a_refusal_leaves_start() {
+        assert_eq!(viewed(0, 6, 1), (5, 99));
+        assert_eq!(viewed(2, 7, 1), (6, 99));
+        assert_eq!(viewed(2, 6, 0), (10, 99));
+        assert_eq!(viewed(2, 6, 4), (10, 99));
+        assert_eq!(viewed(2, 6, 3), (0, 4));
+    }
+
+    /// Check with these k, r, w, n and b, on a codeword of this length: its number,
+    /// set, tried and distance; 99 stands where nothing was written.
+    fn checked(p: [usize; 5], length: usize, budget: usize) -> (u32, u32, usize, usize) {
+        let (codeword, [k, r, w, n, b]) = ([7; 8], p);
+        let (mut set, mut tried, mut distance) = (99, 99, 99);
+        // SAFETY: `length` is at most that of the codeword.
+        let number = unsafe {
+            jirvents_check(
+                k,
+                r,
+                w,
+                n,
+                b,
+                codeword.as_ptr(),
+                length,
+                budget,
+                &mut set,
+                &mut tried,
+                &mut distance,
+            )
+        };
+        (number, set, tried, distance)
+    }
+
+    #[test]
+    fn a_refusal_leaves_set_tried_and_distance() {
+        for budget in [0, 1, 2, usize::MAX] {
+            let number = |p, length| {
+                let (number, set, tried, distance) = checked(p, length, budget);
+                assert_eq!((set, tried, distance), (99, 99, 99));
+                number
+            };
+            assert_eq!(number([1, 2, 2, 33, 2], 6), 1);
+            assert_eq!(number([1, 4, 2, 3, 2], 6), 2);
+            assert_eq!(number([0, 2, 2, 3, 2], 6), 3);
+            assert_eq!(number([2, 2, 2, 3, 2], 6), 4);
+            assert_eq!(number([1, 2, 2, 3, 0], 6), 5);
+            assert_eq!(number([1, 2, 2, 3, 2], 7), 6);
+        }
+        let p = [1, 2, 2, 3, 2];
+        assert_eq!(checked(p, 6, 0), (0, 0b100, 0, 1));
+        assert_eq!(checked(p, 6, 1), (0, 0b100, 1, 0));
+        assert_eq!(checked(p, 6, 2), (0, 0b001, 2, 0));
+        assert_eq!(checked(p, 6, usize::MAX), (0, 0b001, 2, 0));
     }
 
     /// The inverse of a matrix that is said to have this side: its number, and the

@@ -4,30 +4,26 @@ use mathlib.Core.Path.{_≡_, refl, sym, ap, _∙_, subst}
 use mathlib.Core.Logic.{⊎-elim}
 use mathlib.Core.Bool.{Bool, true, false, cond}
 use mathlib.Core.List.{List, []}
-use Prim.Native.Nat.{ℕ, zero, suc, _*_, _<_}
+use Prim.Native.Nat.{ℕ, suc, _*_, _<_}
 use native.Mathlib.Omega.{arith}
-use native.Mathlib.Decide.{ℕ-discrete}
 use lib.ListN.{length, getD, replicate}
 use Rattle.base.specs.Seq.{cell, blocks}
-use Rattle.base.proofs.Below.{all-below}
-use Rattle.base.proofs.Cases.{lt-or, eq-or}
+use Rattle.base.proofs.Cases.{eq-or}
 use Rattle.base.proofs.Seq.{cell-blocks, length-blocks, cells-ext}
 use Rattle.field.specs.Field.{Bytes, add}
 use Rattle.params.specs.Nodes.{has, size, within, count, nodes}
-use Rattle.params.specs.Params.{working, reshaped}
-use Rattle.gates.specs.Gates.{checkGate, viewGate}
+use Rattle.params.specs.Params.{reshaped}
+use Rattle.gates.specs.Gates.{viewGate}
 use Rattle.gates.specs.Valid.{Valid, DeltaAccepted}
 use Rattle.params.specs.declared.Params.{Params}
 use Rattle.params.specs.declared.Shape.{Shape}
 use Rattle.params.proofs.Sets.{rank-lt, node-at-rank, entry, within-size}
-use Rattle.gates.proofs.Valid.{encode-accepted, check-accepted, decode-accepted, delta-accepted, update-accepted, repair-accepted, reconfigure-accepted}
+use Rattle.gates.proofs.Valid.{encode-accepted, decode-accepted, delta-accepted, update-accepted, repair-accepted, reconfigure-accepted}
 use Rattle.serials.specs.Serials.{takes, highest, Stamped}
 use Rattle.serials.proofs.Laws.{stamped-exists, stamped-unique}
-use Rattle.code.specs.Code.{block, used, upTo}
-use Rattle.code.specs.Calls.{Post, Unwritten, Encoded, EncodePost, Decoded, DecodePost, Differences, DeltaPost, Updated, UpdatePost, Repaired, RepairPost, writes, Reconfigured, ReconfigurePost, number, nodeNumber, Proper, Same, Checked, CheckPost, ViewPost}
-use Rattle.code.specs.declared.Verdict.{Verdict}
-use Rattle.code.specs.declared.Verdict.the-variants.{Refused, Agrees, Differs}
-use Rattle.code.proofs.Pairs.{slack-exists, slack-unique, written-leaves, spread-exists, spread-unique, pair-exists, pair-unique, pair-blocks, from-reads, first-reads}
+use Rattle.code.specs.Code.{block, used}
+use Rattle.code.specs.Calls.{Post, Unwritten, Encoded, EncodePost, Decoded, DecodePost, Differences, DeltaPost, Updated, UpdatePost, Repaired, RepairPost, writes, Reconfigured, ReconfigurePost, ViewPost}
+use Rattle.code.proofs.Pairs.{slack-exists, slack-unique, written-leaves, spread-exists, spread-unique, pair-exists, pair-unique, pair-blocks, from-reads}
 use Rattle.code.proofs.Additivity.{block-byte}
 
 -- Some answer and buffer meet the post-condition, ..
@@ -305,93 +301,6 @@ module _ (a : Params) (t : Shape) (old serials : List ℕ) (from to : ℕ) (x bu
       (record { length-is = r .length-is; passed = r .written; other = r .copied })
       (record { length-is = r′ .length-is; passed = r′ .written; other = r′ .copied }))
       (λ z s s′. stamped-unique)
-
--- ---- check
-
-same-dec : (a : Params) (x v codeword : List ℕ) (j : ℕ) → Dec (Same a x v codeword j)
-same-dec a x v codeword j =
-    ⊎-elim (λ all. yes all) (λ f. no (λ s. f .2 (s (f .0) (f .1))))
-    (all-below (λ p. block a x v (suc j) p ≡ cell (a .b) codeword j p) (λ p. ℕ-discrete _ _) (a .b))
-
--- a verdict is known by its numbers
-same-verdict : (v v′ : Verdict) → Proper v → Proper v′ → number v ≡ number v′ → nodeNumber v ≡ nodeNumber v′ → v ≡ v′
-same-verdict (Refused q) (Refused q′) h h′ n i = ap Refused n
-same-verdict (Refused q) Agrees h h′ n i = absurd (h n)
-same-verdict (Refused q) (Differs d) h h′ n i = absurd (h n)
-same-verdict Agrees (Refused q) h h′ n i = absurd (h′ (sym n))
-same-verdict Agrees Agrees h h′ n i = refl
-same-verdict Agrees (Differs d) h h′ n i = absurd (h′ (sym i))
-same-verdict (Differs d) (Refused q) h h′ n i = absurd (h′ (sym n))
-same-verdict (Differs d) Agrees h h′ n i = absurd (h i)
-same-verdict (Differs d) (Differs d′) h h′ n i = ap (λ (j : ℕ). Differs (record { 0 = j })) i
-
-module _ (a : Params) (codeword : List ℕ) where
-  checked-exists : Valid a → Bytes codeword
-      → (answer : Verdict) × (number answer ≡ 0) × Checked a codeword (nodeNumber answer) × Proper answer
-  checked-exists ok bytes =
-      let e = pair-exists a ok (upTo (working a)) (first-reads a ok) codeword bytes in
-      ⊎-elim
-      (λ all. (
-        Agrees,
-        refl,
-        record { message = e .0; slack = e .1; gives = e .2; sound = λ z j hj. all j hj; lowest = λ j z. absurd (omega arith) },
-        tt,
-      ))
-      (λ f. (
-        Differs (record { 0 = suc (f .0) }),
-        refl,
-        record {
-          message = e .0;
-          slack = e .1;
-          gives = e .2;
-          sound = λ z j hj. absurd (omega arith);
-          lowest = λ j z.
-              subst (λ (j : ℕ). (j < a .n) × (Same a (e .0) (e .1) codeword j → ⊥) × ((i : ℕ) → i < j → Same a (e .0) (e .1) codeword i)) (omega arith)
-              (f .1, f .2, f .3);
-        },
-        λ z. omega arith,
-      ))
-      (all-below (Same a (e .0) (e .1) codeword) (same-dec a (e .0) (e .1) codeword) (a .n))
-
-  pub check-met : Bytes codeword → (answer : Verdict) × CheckPost a codeword answer
-  check-met bytes =
-      ⊎-elim
-      (λ z.
-      let c = checked-exists (check-accepted a _ .0 z .valid) bytes in
-      (c .0, (record { number = c .1 ∙ sym z; served = λ _. c .2; refused = λ ne. absurd (ne (c .1)) }, c .3)))
-      (λ ne. (
-        Refused (checkGate a (length codeword)),
-        (record { number = refl; served = λ z. absurd (ne z); refused = λ _. refl }, ne),
-      ))
-      (eq-or (checkGate a (length codeword)) 0)
-
-  checked-once : Valid a → (node node′ : ℕ) → Checked a codeword node → Checked a codeword node′ → node ≡ node′
-  checked-once ok node node′ c c′ = go node node′ refl refl
-    where
-      one : (i p : ℕ) → block a (c .message) (c .slack) i p ≡ block a (c′ .message) (c′ .slack) i p
-      one =
-          pair-blocks a ok (upTo (working a)) (first-reads a ok) (c .message) (c′ .message) (c .slack) (c′ .slack) codeword (c .gives) (c′ .gives)
-
-      here : (i : ℕ) → Same a (c′ .message) (c′ .slack) codeword i → Same a (c .message) (c .slack) codeword i
-      here i h p hp = one (suc i) p ∙ h p hp
-
-      there : (i : ℕ) → Same a (c .message) (c .slack) codeword i → Same a (c′ .message) (c′ .slack) codeword i
-      there i h p hp = sym (one (suc i) p) ∙ h p hp
-
-      go : (m m′ : ℕ) → node ≡ m → node′ ≡ m′ → node ≡ node′
-      go zero zero z z′ = z ∙ sym z′
-      go zero (suc j) z z′ = let l = c′ .lowest j z′ in absurd (l .1 (there j (c .sound z j (l .0))))
-      go (suc j) zero z z′ = let l = c .lowest j z in absurd (l .1 (here j (c′ .sound z′ j (l .0))))
-      go (suc i) (suc j) z z′ =
-          let l = c .lowest i z in
-          let l′ = c′ .lowest j z′ in
-          ⊎-elim (λ h. absurd (l .1 (here i (l′ .2 i h))))
-          (λ h. ⊎-elim (λ h′. absurd (l′ .1 (there j (l .2 j h′)))) (λ h′. omega arith) (lt-or j i)) (lt-or i j)
-
-  pub check-once : (answer answer′ : Verdict) → CheckPost a codeword answer → CheckPost a codeword answer′ → answer ≡ answer′
-  check-once answer answer′ t t′ =
-      same-verdict answer answer′ (t .1) (t′ .1) (t .0 .number ∙ sym (t′ .0 .number))
-      (alike (λ z. checked-once (check-accepted a _ .0 z .valid) (nodeNumber answer) (nodeNumber answer′)) (λ e e′. e ∙ sym e′) (t .0) (t′ .0))
 
 -- ---- view: its number is the gate's by definition
 

@@ -6,3 +6,5 @@ pub mod Determined
 pub mod Posts
 pub mod Sends
 pub mod Used
+pub mod Serving
+pub mod Blaming

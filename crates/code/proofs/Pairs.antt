@@ -1,10 +1,11 @@
 -- The completion theorem at the nodes of a test: as many nodes as the working number determine exactly one pair, and as many as the slack has parts
 -- exactly one slack beside a given message. Assumes nothing.
 use mathlib.Core.Path.{_≡_, sym, ap, ap₂, _∙_, subst}
-use mathlib.Core.Bool.{Bool, true, not}
+use mathlib.Core.Bool.{Bool, true, not, _&&_}
 use mathlib.Core.List.{List}
 use Prim.Native.Nat.{ℕ, suc, _+_, _-_, _*_, _<_}
 use native.Mathlib.Omega.{arith}
+use lib.Dec.{leb}
 use lib.ListN.{length, getD}
 use borrow.Author.Tests.{not-true}
 use Rattle.base.specs.Seq.{cell}
@@ -22,7 +23,7 @@ use Rattle.params.specs.declared.Params.{Params}
 use Rattle.params.proofs.Sets.{length-nodes, rank-lt, node-at-rank, entry, distinct, count-not, count-range, within-size}
 use Rattle.params.proofs.Lowest.{count-lowest, lowest-passes}
 use Rattle.gates.proofs.Valid.{working-le-r, working-le, slack-add}
-use Rattle.code.specs.Code.{point, block, Gives, used, upTo}
+use Rattle.code.specs.Code.{point, block, Gives, used}
 use Rattle.code.specs.Slacks.{Slack}
 use Rattle.code.specs.Calls.{Vanishes}
 
@@ -180,6 +181,10 @@ gives-used a from = gives-fewer (λ j. lowest-passes (working a) (has from) (suc
 pub from-reads : (a : Params) (from : ℕ) → Valid a → within (a .n) from ≡ true → size from ≡ a .r → Reads a (used a from)
 from-reads a from ok hw hs = omega (arith, count-lowest (working a) (has from) (a .n), within-size (a .n) from hw, hs, working-le-r a ok)
 
--- so are the first nodes
+-- the nodes 1..q
+abbrev pub upTo : ℕ → ℕ → Bool
+upTo q i = leb 1 i && leb i q
+
+-- they are that many too
 pub first-reads : (a : Params) → Valid a → Reads a (upTo (working a))
 first-reads a ok = count-range (working a) (a .n) (working-le a ok)

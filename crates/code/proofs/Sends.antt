@@ -1,6 +1,6 @@
 -- Sends of one change (document 02, 2026-03). Two of them are one that reaches the nodes of both: a node that took the change has its serial and does not take it
 -- again. So whichever nodes each send reaches, once all of W was reached there is what one send to all of W would have left. Assumes nothing.
-use mathlib.Core.Path.{_≡_, refl, sym, ap, ap₂, _∙_, subst}
+use mathlib.Core.Path.{_≡_, refl, sym, ap, ap₂, _∙_}
 use mathlib.Core.Bool.{Bool, true, false, _&&_, _||_, true≢false, and-false}
 use mathlib.Core.List.{List}
 use Prim.Native.Nat.{ℕ, zero, suc, _*_, _≤_, _<_}
@@ -14,7 +14,7 @@ use Rattle.field.specs.Field.{add}
 use Rattle.params.specs.Nodes.{has, size, within}
 use Rattle.params.specs.declared.Params.{Params}
 use Rattle.gates.specs.Gates.{updateGate}
-use Rattle.gates.specs.Valid.{Valid, UpdateAccepted}
+use Rattle.gates.specs.Valid.{Valid}
 use Rattle.gates.proofs.Valid.{update-accepted}
 use Rattle.serials.specs.Serials.{takes, Stamped}
 use Rattle.serials.proofs.Laws.{stamped-ext, stamped-unique}

@@ -11,7 +11,7 @@ use Rattle.params.specs.declared.Params.{Params}
 use Rattle.params.proofs.Sets.{within-has}
 use Rattle.params.proofs.Lowest.{Lowest, lowest-has, lowest-size}
 use Rattle.gates.specs.Valid.{Valid}
-use Rattle.gates.proofs.Valid.{working-le-r, working-le}
+use Rattle.gates.proofs.Valid.{working-le-r, working-known}
 use Rattle.code.specs.Code.{Gives, used}
 use Rattle.code.proofs.Pairs.{gives-fewer}
 
@@ -25,7 +25,7 @@ pub record Uses (a : Params) (from chosen : ℕ) : Type 0 where
 pub uses : (a : Params) (from chosen q : ℕ) → Valid a → within (a .n) from ≡ true → size from ≡ a .r → from < 2 ^ 32 → chosen < 2 ^ 32
     → q ≡ min (working a) (2 ^ 64 - 1) → Lowest q from chosen → Uses a from chosen
 uses a from chosen q ok hw hs word word′ hq told =
-    let exact : q ≡ working a = hq ∙ omega (arith, working-le a ok, ok .shape .n-high) in
+    let exact = working-known a ok q hq in
     record {
       has-is = λ i. told i ∙ ap (λ (m : ℕ). lowest m (has from) i) exact;
       full = lowest-size q from chosen told word word′ ∙ omega (arith, exact, hs, working-le-r a ok);

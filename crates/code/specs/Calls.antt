@@ -1,22 +1,25 @@
 -- "The calls" (document 01, with what document 02 changes): for each, what its answer and every byte of its buffers are, served and refused. Results are said
 -- by their meaning, through the one pair with the given blocks; that there is exactly one is proved in proofs/. Assumes nothing.
 use mathlib.Core.Path.{_≡_}
-use mathlib.Core.Bool.{Bool, true, false, _||_}
+use mathlib.Core.Bool.{Bool, true, false, not, _&&_, _||_}
+use mathlib.Core.Logic.{_⊎_}
 use mathlib.Core.List.{List, []}
-use Prim.Native.Nat.{ℕ, suc, _-_, _*_, _<_}
-use lib.Dec.{ltb}
+use Prim.Native.Nat.{ℕ, suc, _+_, _-_, _*_, _<_}
+use lib.Dec.{leb, ltb}
 use lib.ListN.{length, take, drop, replicate}
 use Rattle.base.specs.Seq.{cell}
 use Rattle.field.specs.Field.{add}
-use Rattle.params.specs.Nodes.{has, count}
+use Rattle.params.specs.Nodes.{has, size, within, count}
 use Rattle.params.specs.Params.{slackParts, working, reshaped}
 use Rattle.gates.specs.Gates.{encodeGate, decodeGate, deltaGate, updateGate, repairGate, checkGate, viewGate, reconfigureGate}
 use Rattle.params.specs.declared.Params.{Params}
 use Rattle.params.specs.declared.Shape.{Shape}
 use Rattle.serials.specs.Serials.{takes, highest, Stamped}
-use Rattle.code.specs.Code.{Parts, block, Pair, Gives, used, upTo}
+use Rattle.subsets.specs.Order.{before, earlier}
+use Rattle.code.specs.Code.{Parts, block, Pair, Gives, used}
+use Rattle.code.specs.declared.Blame.{Blame}
 use Rattle.code.specs.declared.Verdict.{Verdict}
-use Rattle.code.specs.declared.Verdict.the-variants.{Refused, Agrees, Differs}
+use Rattle.code.specs.declared.Verdict.the-variants.{Refused, Blamed}
 
 -- A call answers its gate's number; with 0 it is served, with any other it is refused.
 pub record Post (gate answer : ℕ) (WhenServed WhenRefused : Type 0) : Type 0 where
@@ -135,42 +138,51 @@ ReconfigurePost a t old serials from to x buffer numbers answer new serials′ =
     (Reconfigured a t old from to x new × Stamped (t .n) (writes a to) (highest (has from) serials (a .n)) serials serials′)
     (Unwritten buffer numbers new serials′)
 
--- ---- "Check: takes the record. Besides its gate number it gives a trap number: 0 if all n blocks come from the pair of traps" 1..q (document 02, 2026-01:
--- "check uses traps 1..q"), "else the lowest trap whose block differs from that pair's."
+-- ---- Check (document 02, 2026-06): "Check now seeks the smallest set of traps whose removal leaves all others agreeing with one message and slack pair. It tries
+-- sets by size from 0, within a size by lowest choice number, and stops after a given number of sets. In place of its trap number it returns the set, the number tried
+-- and how far the size may be above the smallest."
 
--- The verdict's number in document 01 ..
-abbrev pub number : Verdict → ℕ
-number (Refused q) = q
-number Agrees = 0
-number (Differs i) = 0
-
--- .. and its trap number, which a refused check does not give: 0 there.
-abbrev pub nodeNumber : Verdict → ℕ
-nodeNumber (Refused q) = 0
-nodeNumber Agrees = 0
-nodeNumber (Differs i) = i .0
-
--- A number has one case: a refusal's is not 0, and `Differs` names a node.
-abbrev pub Proper : Verdict → Type 0
-Proper (Refused q) = q ≡ 0 → ⊥
-Proper Agrees = Unit {0}
-Proper (Differs i) = i .0 ≡ 0 → ⊥
-
--- node suc j's block is the pair's
-abbrev pub Same : Params → List ℕ → List ℕ → List ℕ → ℕ → Type 0
-Same a x v codeword j = (p : ℕ) → p < a .b → block a x v (suc j) p ≡ cell (a .b) codeword j p
-
-pub record Checked (a : Params) (codeword : List ℕ) (node : ℕ) : Type 0 where
+-- One pair gives the blocks of all nodes of 1..n outside s.
+pub record Serves (a : Params) (codeword : List ℕ) (s : ℕ) : Type 0 where
   pub message : List ℕ
   pub slack : List ℕ
-  pub gives : Gives a message slack (upTo (working a)) codeword
-  pub sound : node ≡ 0 → (j : ℕ) → j < a .n → Same a message slack codeword j
-  pub lowest : (j : ℕ) → node ≡ suc j
-      → (j < a .n) × (Same a message slack codeword j → ⊥) × ((i : ℕ) → i < j → Same a message slack codeword i)
+  pub gives : Gives a message slack (λ i. not (has s i)) codeword
 
-abbrev pub CheckPost : Params → List ℕ → Verdict → Type 0
-CheckPost a codeword answer =
-    Post (checkGate a (length codeword)) (number answer) (Checked a codeword (nodeNumber answer)) (nodeNumber answer ≡ 0) × Proper answer
+-- No set that comes before s serves.
+abbrev pub NoneBefore : Params → List ℕ → ℕ → Type 0
+NoneBefore a codeword s = (t : ℕ) → within (a .n) t ≡ true → before t s ≡ true → Serves a codeword t → ⊥
+
+-- The first set that serves is among the first budget sets: it is returned, and counts as tried.
+pub record Found (a : Params) (codeword : List ℕ) (budget : ℕ) (blame : Blame) : Type 0 where
+  pub inside : within (a .n) (blame .set .0) ≡ true
+  pub serves : Serves a codeword (blame .set .0)
+  pub first : NoneBefore a codeword (blame .set .0)
+  pub reached : earlier (a .n) (blame .set .0) < budget
+  pub tried-is : blame .tried ≡ suc (earlier (a .n) (blame .set .0))
+  pub distance-is : blame .distance ≡ 0
+
+-- None of the first budget sets serves. "Stopped early, the set is traps q+1..n and the distance is its size less that of the first set not tried."
+pub record Stopped (a : Params) (codeword : List ℕ) (budget : ℕ) (blame : Blame) : Type 0 where
+  pub untried : ℕ
+  pub inside : within (a .n) untried ≡ true
+  pub first : NoneBefore a codeword untried
+  pub reached : earlier (a .n) untried ≡ budget
+  pub set-is : (i : ℕ) → has (blame .set .0) i ≡ (ltb (working a) i && leb i (a .n))
+  pub tried-is : blame .tried ≡ budget
+  pub distance-is : blame .distance + size untried ≡ size (blame .set .0)
+
+abbrev pub Blames : Params → List ℕ → ℕ → Blame → Type 0
+Blames a codeword budget blame = Found a codeword budget blame ⊎ Stopped a codeword budget blame
+
+-- The verdict's number in document 01.
+abbrev pub number : Verdict → ℕ
+number (Refused q) = q
+number (Blamed blame) = 0
+
+-- A refused check gives its number alone.
+abbrev pub CheckPost : Params → List ℕ → ℕ → Verdict → Type 0
+CheckPost a codeword budget (Refused q) = (q ≡ checkGate a (length codeword)) × (q ≡ 0 → ⊥)
+CheckPost a codeword budget (Blamed blame) = (checkGate a (length codeword) ≡ 0) × Blames a codeword budget blame
 
 -- ---- "View: the part of the record that is trap i's block, returned as a part of the lent record. A refused view is a part of length 0. The view returns
 -- the part alone; a second call on the same arguments gives its gate number."

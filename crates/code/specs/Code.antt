@@ -1,9 +1,8 @@
 -- The Read-Write code (document 01, "The arrangement and the record"): what a node's block is. Assumes nothing.
 use mathlib.Core.Path.{_≡_}
-use mathlib.Core.Bool.{Bool, true, _&&_}
+use mathlib.Core.Bool.{Bool, true}
 use mathlib.Core.List.{List}
 use Prim.Native.Nat.{ℕ, suc, _*_, _<_}
-use lib.Dec.{leb}
 use lib.ListN.{length}
 use Rattle.base.specs.Seq.{cell}
 use Rattle.field.specs.Field.{Bytes}
@@ -41,7 +40,3 @@ pub record Gives (a : Params) (x v : List ℕ) (S : ℕ → Bool) (codeword : Li
 -- "A reading, rebuild or rearrangement given R uses R's q lowest traps" (document 02, 2026-01).
 abbrev pub used : Params → ℕ → ℕ → Bool
 used a from = lowest (working a) (has from)
-
--- The nodes 1..q.
-abbrev pub upTo : ℕ → ℕ → Bool
-upTo q i = leb 1 i && leb i q

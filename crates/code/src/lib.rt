@@ -28,12 +28,19 @@ pub fn points_of(set: NodeSet, out: &mut [u8]) -> usize
     count
 }
 
-// What `check` answers. `number` and `nodeNumber` in specs/Calls.antt give each case its number and value in document 01.
+// What an accepted `check` gives.
+pub struct Blame {
+    // nodes without which one pair gives all other blocks
+    pub set: NodeSet,
+    // how many sets were tried
+    pub tried: usize,
+    // how far the set's size may be above the smallest
+    pub distance: usize,
+}
+
+// What `check` answers: a refused one its number alone.
 pub enum Verdict {
     // The first question whose answer is no.
     Refused(u32),
-    // All blocks come from the pair of the first nodes.
-    Agrees,
-    // The lowest node whose block differs from that pair's.
-    Differs(Node),
+    Blamed(Blame),
 }

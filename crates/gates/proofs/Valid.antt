@@ -3,7 +3,7 @@ use mathlib.Core.Path.{_≡_, sym, ap₂, _∙_}
 use mathlib.Core.Logic.{_↔_}
 use mathlib.Core.Bool.{true, _&&_}
 use mathlib.Core.List.{List, [], _∷_, _++_, List·Memᴰ}
-use Prim.Native.Nat.{ℕ, _+_, _-_, _*_, _≤_}
+use Prim.Native.Nat.{ℕ, _+_, _-_, _*_, _^_, min, _≤_}
 use native.Mathlib.Nat.{le-trans, mul-le-mul}
 use native.Mathlib.Omega.{arith}
 use lib.Dec.{leb, eqb}
@@ -37,6 +37,10 @@ working-le-r a v = omega arith
 pub working-le : (a : Params) → Valid a → working a ≤ a .n
 unfolding working
 working-le a v = omega arith
+
+-- it is what Params::working answers
+pub working-known : (a : Params) → Valid a → (q : ℕ) → q ≡ min (working a) (2 ^ 64 - 1) → q ≡ working a
+working-known a v q e = e ∙ omega (arith, working-le a v, v .shape .n-high)
 
 -- ---- the questions of a shape and of parameters, with others behind them
 

@@ -7,41 +7,22 @@ use native.Mathlib.Omega.{arith}
 use lib.ListN.{length}
 use Rattle.gates.specs.Gates.{viewGate}
 use Rattle.gates.specs.Valid.{ViewAccepted}
-use Rattle.params.specs.declared.Node.{Node}
 use Rattle.params.specs.declared.Params.{Params}
 use Rattle.matrix.specs.Invert.{InvertPost, number, columnNumber, Proper}
 use Rattle.matrix.specs.declared.Inversion.{Inversion}
 use Rattle.matrix.specs.declared.Inversion.the-variants as inversion
 use Rattle.code.specs.Calls.{CheckPost}
-use Rattle.code.specs.declared.Verdict.the-variants.{Refused, Agrees, Differs}
+use Rattle.code.specs.declared.Blame.{Blame}
+use Rattle.code.specs.declared.Verdict.the-variants.{Refused, Blamed}
 use Rattle.jirvents.specs.Exports.{CheckGave, ViewGave, InvertGave}
 
-pub check-refused : (a : Params) (codeword : List ℕ) (old q : ℕ) → CheckPost a codeword (Refused q) → CheckGave a codeword old q old
-check-refused a codeword old q post =
-    record {
-      verdict = Refused q;
-      post = post;
-      answers = refl;
-      gave = record { served = λ z. absurd (post .1 z); refused = λ _. refl };
-    }
+pub check-refused : (a : Params) (codeword : List ℕ) (budget set tried distance q : ℕ) → CheckPost a codeword budget (Refused q)
+    → CheckGave a codeword budget set tried distance q set tried distance
+check-refused a codeword budget set tried distance q post = record { verdict = Refused q; post = post; answers = refl; wrote = (refl, refl, refl) }
 
-pub check-agrees : (a : Params) (codeword : List ℕ) (old : ℕ) → CheckPost a codeword Agrees → CheckGave a codeword old 0 0
-check-agrees a codeword old post =
-    record {
-      verdict = Agrees;
-      post = post;
-      answers = refl;
-      gave = record { served = λ _. refl; refused = λ ne. absurd (ne refl) };
-    }
-
-pub check-differs : (a : Params) (codeword : List ℕ) (old : ℕ) (i : Node) → CheckPost a codeword (Differs i) → CheckGave a codeword old 0 (i .0)
-check-differs a codeword old i post =
-    record {
-      verdict = Differs i;
-      post = post;
-      answers = refl;
-      gave = record { served = λ _. refl; refused = λ ne. absurd (ne refl) };
-    }
+pub check-blamed : (a : Params) (codeword : List ℕ) (budget set tried distance : ℕ) (blame : Blame) → CheckPost a codeword budget (Blamed blame)
+    → CheckGave a codeword budget set tried distance 0 (blame .set .0) (blame .tried) (blame .distance)
+check-blamed a codeword budget set tried distance blame post = record { verdict = Blamed blame; post = post; answers = refl; wrote = (refl, refl, refl) }
 
 pub invert-inverted : (s : ℕ) (m old new : List ℕ) (column : ℕ) (answer : Inversion) → answer ≡ inversion.Inverted → InvertPost s m old answer new
     → InvertGave s m old new column 0 column

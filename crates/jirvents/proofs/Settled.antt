@@ -1,5 +1,5 @@
 -- The contracts of check, view and the inverse settle the answer and what is written beside it. Assumes nothing.
-use mathlib.Core.Path.{_≡_, refl, sym, ap, _∙_}
+use mathlib.Core.Path.{_≡_, refl, sym, ap, _∙_, subst}
 use mathlib.Core.Logic.{⊎-elim}
 use mathlib.Core.List.{List}
 use Prim.Native.Nat.{ℕ}
@@ -8,24 +8,35 @@ use Rattle.params.specs.declared.Params.{Params}
 use Rattle.matrix.specs.Invert.{columnNumber}
 use Rattle.matrix.specs.Invert as matrix
 use Rattle.matrix.proofs.Settled.{invert-once}
-use Rattle.code.specs.Calls.{number, nodeNumber}
-use Rattle.code.proofs.Determined.{check-once}
-use Rattle.jirvents.specs.Exports.{Gave, CheckGave, ViewGave, InvertGave}
+use Rattle.code.specs.Calls.{number}
+use Rattle.code.specs.declared.Verdict.{Verdict}
+use Rattle.code.specs.declared.Verdict.the-variants.{Refused, Blamed}
+use Rattle.code.proofs.Blaming.{check-once}
+use Rattle.jirvents.specs.Exports.{Gave, CheckWrote, CheckGave, ViewGave, InvertGave}
 
 gave-once : {answer answer′ given given′ old new new′ : ℕ} → answer ≡ answer′ → given ≡ given′ → Gave answer given old new → Gave answer′ given′ old new′
     → new ≡ new′
 gave-once {answer} e g t t′ =
     ⊎-elim (λ z. t .served z ∙ g ∙ sym (t′ .served (sym e ∙ z))) (λ ne. t .refused ne ∙ sym (t′ .refused (λ z. ne (e ∙ z)))) (eq-or answer 0)
 
-pub check-gave-once : (a : Params) (codeword : List ℕ) (old answer answer′ new new′ : ℕ) → CheckGave a codeword old answer new
-    → CheckGave a codeword old answer′ new′ → (answer ≡ answer′) × (new ≡ new′)
-check-gave-once a codeword old answer answer′ new new′ t t′ = (answers, gave-once answers (ap nodeNumber same) (t .gave) (t′ .gave))
+pub check-gave-once : (a : Params) (codeword : List ℕ) (budget oldSet oldTried oldDistance answer answer′ set set′ tried tried′ distance distance′ : ℕ)
+    → CheckGave a codeword budget oldSet oldTried oldDistance answer set tried distance
+    → CheckGave a codeword budget oldSet oldTried oldDistance answer′ set′ tried′ distance′
+    → (answer ≡ answer′) × (set ≡ set′) × (tried ≡ tried′) × (distance ≡ distance′)
+check-gave-once a codeword budget oldSet oldTried oldDistance answer answer′ set set′ tried tried′ distance distance′ t t′ =
+    let w = wrote-once (t .verdict) (t .wrote) (subst (wrote set′ tried′ distance′) (sym same) (t′ .wrote)) in
+    (t .answers ∙ ap number same ∙ sym (t′ .answers), w .0, w .1, w .2)
   where
     same : t .verdict ≡ t′ .verdict
-    same = check-once a codeword (t .verdict) (t′ .verdict) (t .post) (t′ .post)
+    same = check-once a codeword budget (t .verdict) (t′ .verdict) (t .post) (t′ .post)
 
-    answers : answer ≡ answer′
-    answers = t .answers ∙ ap number same ∙ sym (t′ .answers)
+    wrote : ℕ → ℕ → ℕ → Verdict → Type 0
+    wrote set tried distance verdict = CheckWrote verdict oldSet oldTried oldDistance set tried distance
+
+    wrote-once : (verdict : Verdict) → wrote set tried distance verdict → wrote set′ tried′ distance′ verdict
+        → (set ≡ set′) × (tried ≡ tried′) × (distance ≡ distance′)
+    wrote-once (Refused q) w w′ = (w .0 ∙ sym (w′ .0), w .1 ∙ sym (w′ .1), w .2 ∙ sym (w′ .2))
+    wrote-once (Blamed blame) w w′ = (w .0 ∙ sym (w′ .0), w .1 ∙ sym (w′ .1), w .2 ∙ sym (w′ .2))
 
 pub view-gave-once : (a : Params) (codeword : List ℕ) (i old answer answer′ new new′ : ℕ) → ViewGave a codeword i old answer new
     → ViewGave a codeword i old answer′ new′ → (answer ≡ answer′) × (new ≡ new′)

@@ -9,8 +9,9 @@ use Rattle.params.specs.declared.Shape.{Shape}
 use Rattle.matrix.specs.Invert.{InvertPost, columnNumber}
 use Rattle.matrix.specs.Invert as matrix
 use Rattle.matrix.specs.declared.Inversion.{Inversion}
-use Rattle.code.specs.Calls.{CheckPost, ViewPost, number, nodeNumber}
+use Rattle.code.specs.Calls.{CheckPost, ViewPost, number}
 use Rattle.code.specs.declared.Verdict.{Verdict}
+use Rattle.code.specs.declared.Verdict.the-variants.{Refused, Blamed}
 
 -- "An arrangement is k, r, w, n, B", from its five numbers ..
 abbrev pub params : ℕ → ℕ → ℕ → ℕ → ℕ → Params
@@ -25,12 +26,18 @@ pub record Gave (answer given old new : ℕ) : Type 0 where
   pub served : answer ≡ 0 → new ≡ given
   pub refused : (answer ≡ 0 → ⊥) → new ≡ old
 
--- check, "Besides its gate number it gives a trap number": the verdict's two numbers
-pub record CheckGave (a : Params) (codeword : List ℕ) (old answer new : ℕ) : Type 0 where
+-- check, "it returns the set, the number tried and how far the size may be above the smallest" (document 02, 2026-06): what is then in three numbers; a refused
+-- one writes none of them
+abbrev pub CheckWrote : Verdict → (oldSet oldTried oldDistance set tried distance : ℕ) → Type 0
+CheckWrote (Refused q) oldSet oldTried oldDistance set tried distance = (set ≡ oldSet) × (tried ≡ oldTried) × (distance ≡ oldDistance)
+CheckWrote (Blamed blame) oldSet oldTried oldDistance set tried distance =
+    (set ≡ blame .set .0) × (tried ≡ blame .tried) × (distance ≡ blame .distance)
+
+pub record CheckGave (a : Params) (codeword : List ℕ) (budget oldSet oldTried oldDistance answer set tried distance : ℕ) : Type 0 where
   pub verdict : Verdict
-  pub post : CheckPost a codeword verdict
+  pub post : CheckPost a codeword budget verdict
   pub answers : answer ≡ number verdict
-  pub gave : Gave answer (nodeNumber verdict) old new
+  pub wrote : CheckWrote verdict oldSet oldTried oldDistance set tried distance
 
 -- view, "the part of the record that is trap i's block": where it begins, with i - 1 blocks before it, "trap 1's block first". The B bytes from there on are
 -- the part that the view returns.

@@ -1,9 +1,9 @@
 // The library for C and Rust: each call on plain numbers and slices, under a name of its own. A slice is a pointer and a length there.
 // Answers are document 01's numbers.
+use checking::check;
 use code::Verdict;
 use decoding::decode;
 use encoding::encode;
-use maintenance::check;
 use maintenance::repair;
 use matrix::Inversion;
 use matrix::invert;
@@ -163,7 +163,8 @@ pub extern "C" fn jirvents_reconfigure(
     )
 }
 
-// Whether all blocks agree: where the answer is 0, node becomes 0 or the lowest node whose block differs.
+// Which nodes to blame: where the answer is 0, set becomes nodes without which one pair gives all other blocks, tried how many sets were tried, at most the budget,
+// and distance how far the set's size may be above the smallest.
 #[no_mangle]
 pub extern "C" fn jirvents_check(
     k: usize,
@@ -172,19 +173,20 @@ pub extern "C" fn jirvents_check(
     n: usize,
     b: usize,
     codeword: &[u8],
-    node: &mut u8,
+    budget: usize,
+    set: &mut u32,
+    tried: &mut usize,
+    distance: &mut usize,
 ) -> u32
-    ensures { λ z. ⌜ CheckGave (params k r w n b) (now (codeword .entry)) (now (node .entry)) z (now (node .exit)) ⌝ }
+    ensures { λ z. ⌜ CheckGave (params k r w n b) (now (codeword .entry)) budget (now (set .entry)) (now (tried .entry)) (now (distance .entry)) z (now (set .exit)) (now (tried .exit)) (now (distance .exit)) ⌝ }
 {
-    let verdict = check(Params { k, r, w, n, b }, codeword);
+    let verdict = check(Params { k, r, w, n, b }, codeword, budget);
     match verdict {
         Verdict::Refused(number) => number,
-        Verdict::Agrees => {
-            *node = 0;
-            0
-        }
-        Verdict::Differs(found) => {
-            *node = found.0;
+        Verdict::Blamed(blame) => {
+            *set = blame.set.0;
+            *tried = blame.tried;
+            *distance = blame.distance;
             0
         }
     }

@@ -1,31 +1,36 @@
 -- A served call on given bytes and serials, by computing: for each call the tests that its post-condition comes down to, once the pair or the slack is given.
 -- Assumes nothing.
 use mathlib.Core.Path.{_≡_, refl, sym, ap, ap₂, _∙_, subst}
-use mathlib.Core.Logic.{⊎-elim}
-use mathlib.Core.Bool.{Bool, true, false, not, _||_, cond, true≢false, Bool·not-not}
+use mathlib.Core.Logic.{inl, inr, ⊎-elim}
+use mathlib.Core.Bool.{Bool, true, false, not, _&&_, _||_, cond, true≢false, Bool·not-not}
 use mathlib.Core.List.{List, [], _∷_}
-use Prim.Native.Nat.{ℕ, suc, _*_, _^_, _<_}
+use Prim.Native.Nat.{ℕ, suc, _+_, _*_, _^_, _≤_, _<_}
 use native.Mathlib.Omega.{arith}
-use borrow.Author.Tests.{eq-eqb}
-use lib.Dec.{T, eqb, ltb, eqb→eq, ltb→lt}
+use borrow.Author.Tests.{leb-true, ltb-true, eqb-true, eq-eqb}
+use lib.Dec.{T, eqb, leb, ltb, eqb→eq, leb→le, ltb→lt}
 use lib.ListN.{length, getD, replicate, length-replicate, List·getD-eq-default}
 use lib.Seq.{ext-getD}
 use Rattle.base.specs.Seq.{cell}
 use Rattle.base.proofs.Cases.{lt-or}
 use Rattle.base.proofs.Seq.{zeros-at}
+use Rattle.base.proofs.Questions.{both-known}
 use Rattle.base.proofs.Test.{both, both-left, both-right, allBelow, below}
 use Rattle.field.specs.Field.{Bytes, add}
-use Rattle.params.specs.Nodes.{has, count}
+use Rattle.params.specs.Nodes.{has, size, within, count}
 use Rattle.params.specs.Params.{slackParts, working, reshaped}
 use Rattle.gates.specs.Gates.{encodeGate, decodeGate, deltaGate, updateGate, repairGate, reconfigureGate, checkGate}
 use Rattle.params.specs.declared.Params.{Params}
 use Rattle.params.specs.declared.Shape.{Shape}
-use Rattle.params.proofs.Sets.{has-le}
+use Rattle.params.proofs.Sets.{has-le, same-test}
+use Rattle.gates.specs.Valid.{Valid}
+use Rattle.gates.proofs.Valid.{check-accepted}
 use Rattle.serials.specs.Serials.{Words32, takes, highest, Stamped}
 use Rattle.serials.proofs.Laws.{stamped-by}
-use Rattle.code.specs.Code.{Parts, block, Gives, used, upTo}
-use Rattle.code.specs.Calls.{Post, EncodePost, DecodePost, Vanishes, DeltaPost, UpdatePost, RepairPost, writes, ReconfigurePost, Same, CheckPost}
-use Rattle.code.specs.declared.Verdict.the-variants.{Agrees, Differs}
+use Rattle.subsets.specs.Order.{before, earlier}
+use Rattle.code.specs.Code.{Parts, block, Gives, used}
+use Rattle.code.specs.Calls.{Post, EncodePost, DecodePost, Vanishes, DeltaPost, UpdatePost, RepairPost, writes, ReconfigurePost, Serves, NoneBefore, CheckPost}
+use Rattle.code.specs.declared.Verdict.the-variants.{Blamed}
+use Rattle.code.proofs.Serving.{lowestOutside, outside-reads, outside-lowest, serves-by}
 
 -- ---- lists of tests
 
@@ -44,6 +49,14 @@ each (t ∷ ts) h = (both-left t (conj ts) h, each ts (both-right t (conj ts) h)
 abbrev implies : Bool → Bool → Bool
 implies true b = b
 implies false b = true
+
+passed : (b : Bool) → T b → b ≡ true
+passed true t = refl
+passed false t = absurd t
+
+-- wherever f passes below n, so does g
+implied : (f g : ℕ → Bool) (n : ℕ) → T (allBelow n (λ i. implies (f i) (g i))) → (i : ℕ) → i < n → f i ≡ true → g i ≡ true
+implied f g n t i hi e = passed (g i) (subst (λ (c : Bool). T (implies c (g i))) e (below n (λ i. implies (f i) (g i)) t i hi))
 
 -- f and g agree at the nodes of 1..n that pass, at each byte place
 abbrev pub same? : ℕ → ℕ → (ℕ → Bool) → (ℕ → ℕ → ℕ) → (ℕ → ℕ → ℕ) → Bool
@@ -264,68 +277,126 @@ module _ (a : Params) (t : Shape) (old serials : List ℕ) (from to : ℕ) (x ne
         stamped (t .n) (writes a to) (highest (has from) serials (a .n)) serials serials′ (q .1 .1 .1 .1 .1 .1 .1 .1 .0),
       )
 
--- a check of blocks that come from one pair
-module _ (a : Params) (codeword message slack : List ℕ) where
-  abbrev pub check? : List Bool
-  check? =
-      eqb 0 (checkGate a (length codeword)) ∷ conj (gives? a message slack (upTo (working a)) codeword) ∷
-      same? (a .n) (a .b) (λ i. true) (λ j. block a message slack (suc j)) (cell (a .b) codeword) ∷ []
+-- ---- check
 
-  pub check-by : T (conj check?) → CheckPost a codeword Agrees
-  check-by h =
-      let t = each check? h in (
-        accepted refl (t .0)
-            (record {
-              message = message;
-              slack = slack;
-              gives = gives a message slack (upTo (working a)) codeword (t .1 .0);
-              sound = λ z j hj p.
-                  same (a .n) (a .b) (λ i. true) (λ j. block a message slack (suc j)) (cell (a .b) codeword) (t .1 .1 .0) j p hj refl;
-              lowest = λ j z. absurd (omega arith);
-            }),
-        tt,
-      )
+-- What shows that a set does not serve: a pair that gives the q lowest nodes outside it, and a node outside it, suc j, whose block differs from the pair's at byte
+-- place p.
+pub record Against : Type 0 where
+  pub set : ℕ
+  pub message : List ℕ
+  pub slack : List ℕ
+  pub j : ℕ
+  pub p : ℕ
 
--- a check in which node suc j is the lowest whose block differs, at byte place p
-module _ (a : Params) (codeword message slack : List ℕ) (j p : ℕ) where
-  abbrev pub differs? : List Bool
-  differs? =
-      eqb 0 (checkGate a (length codeword)) ∷ conj (gives? a message slack (upTo (working a)) codeword) ∷ ltb j (a .n) ∷ ltb p (a .b) ∷
-      not (eqb (block a message slack (suc j) p) (cell (a .b) codeword j p)) ∷
-      same? j (a .b) (λ i. true) (λ i. block a message slack (suc i)) (cell (a .b) codeword) ∷ []
+-- .. at its first byte
+abbrev pub differing : (set : ℕ) → (message slack : List ℕ) → (j : ℕ) → Against
+differing s x v j = record { set = s; message = x; slack = v; j = j; p = 0 }
 
-  pub differs-by : T (conj differs?) → CheckPost a codeword (Differs (record { 0 = suc j }))
-  differs-by h =
-      let t = each differs? h in (
-        accepted refl (t .0)
-            (record {
-              message = message;
-              slack = slack;
-              gives = gives a message slack (upTo (working a)) codeword (t .1 .0);
-              sound = λ z. absurd (omega (arith, z));
-              lowest = λ i e.
-                  subst (λ (m : ℕ). (m < a .n) × (Same a message slack codeword m → ⊥) × ((l : ℕ) → l < m → Same a message slack codeword l)) (omega (arith, e)) (
-                    ltb→lt _ _ (t .1 .1 .0),
-                    λ s. unlike _ _ (t .1 .1 .1 .1 .0) (s p (ltb→lt _ _ (t .1 .1 .1 .0))),
-                    λ l hl q. same j (a .b) (λ i. true) (λ i. block a message slack (suc i)) (cell (a .b) codeword) (t .1 .1 .1 .1 .1 .0) l q hl refl,
-                  );
-            }),
-        λ z. omega (arith, z),
-      )
+module _ (a : Params) (codeword : List ℕ) where
+  abbrev against? : Against → List Bool
+  against? c =
+      within (a .n) (c .set) ∷ leb (size (c .set) + working a) (a .n) ∷ conj (gives? a (c .message) (c .slack) (lowestOutside a (c .set)) codeword) ∷
+      ltb (c .j) (a .n) ∷ not (has (c .set) (suc (c .j))) ∷ ltb (c .p) (a .b) ∷
+      not (eqb (block a (c .message) (c .slack) (suc (c .j)) (c .p)) (cell (a .b) codeword (c .j) (c .p))) ∷ []
+
+  against : Valid a → (c : Against) → T (conj (against? c)) → Serves a codeword (c .set) → ⊥
+  against ok c h s =
+      let t = each (against? c) h in
+      unlike _ _ (t .1 .1 .1 .1 .1 .1 .0)
+      (serves-by a ok codeword (lowestOutside a (c .set)) (outside-reads a (c .set) (passed _ (t .0)) (leb→le _ _ (t .1 .0))) (c .set) (outside-lowest a (c .set))
+      (c .message) (c .slack)
+      (gives a (c .message) (c .slack) (lowestOutside a (c .set)) codeword (t .1 .1 .0)) s .equal (c .j) (c .p) (ltb→lt _ _ (t .1 .1 .1 .0))
+      (passed _ (t .1 .1 .1 .1 .0)) (ltb→lt _ _ (t .1 .1 .1 .1 .1 .0)))
     where
       unlike : (x y : ℕ) → T (not (eqb x y)) → x ≡ y → ⊥
       unlike x y t e = subst (λ (b : Bool). T (not b)) (eq-eqb x y e) t
+
+  -- the list has what shows it of t
+  abbrev refuted? : ℕ → List Against → Bool
+  refuted? t [] = false
+  refuted? t (c ∷ cs) = cond (eqb (c .set) t) (conj (against? c)) (refuted? t cs)
+
+  refuted : Valid a → (t : ℕ) (cs : List Against) → T (refuted? t cs) → Serves a codeword t → ⊥
+  refuted ok t [] h s = absurd h
+  refuted ok t (c ∷ cs) h s = go (eqb (c .set) t) refl h (λ k. refuted ok t cs k s)
+    where
+      go : (b : Bool) → eqb (c .set) t ≡ b → T (cond b (conj (against? c)) (refuted? t cs)) → (T (refuted? t cs) → ⊥) → ⊥
+      go true e h rest = against ok c h (subst (Serves a codeword) (sym (eqb-true (c .set) t e)) s)
+      go false e h rest = rest h
+
+  -- .. of each set before s
+  abbrev none? : ℕ → List Against → Bool
+  none? s cs = allBelow (2 ^ a .n) (λ t. implies (before t s) (refuted? t cs))
+
+  none : Valid a → (s : ℕ) (cs : List Against) → T (none? s cs) → NoneBefore a codeword s
+  unfolding within
+  none ok s cs h t w b =
+      refuted ok t cs
+      (subst T (sym (implied (λ t. before t s) (λ t. refuted? t cs) (2 ^ a .n) h t (ltb-true t (2 ^ a .n) w) b)) tt)
+
+  valid : T (eqb 0 (checkGate a (length codeword))) → Valid a
+  valid z = check-accepted a _ .0 (sym (eqb→eq _ _ z)) .valid
+
+-- a check that finds s, by the pair that gives all nodes outside it
+module _ (a : Params) (codeword : List ℕ) (s tried : ℕ) (message slack : List ℕ) (cs : List Against) where
+  abbrev pub found? : List Bool
+  found? =
+      eqb 0 (checkGate a (length codeword)) ∷ within (a .n) s ∷ conj (gives? a message slack (λ i. not (has s i)) codeword) ∷ none? a codeword s cs ∷
+      eqb tried (suc (earlier (a .n) s)) ∷ []
+
+  pub found-by : T (conj found?) → (budget : ℕ) → tried ≤ budget
+      → CheckPost a codeword budget (Blamed (record { set = record { 0 = s }; tried = tried; distance = 0 }))
+  found-by h budget reach =
+      let t = each found? h in
+      let tried-is : tried ≡ suc (earlier (a .n) s) = eqb→eq _ _ (t .1 .1 .1 .1 .0) in (
+        sym (eqb→eq _ _ (t .0)),
+        inl (record {
+          inside = passed _ (t .1 .0);
+          serves = record { message = message; slack = slack; gives = gives a message slack (λ i. not (has s i)) codeword (t .1 .1 .0) };
+          first = none a codeword (valid a codeword (t .0)) s cs (t .1 .1 .1 .0);
+          reached = omega (arith, tried-is);
+          tried-is = tried-is;
+          distance-is = refl;
+        }),
+      )
+
+-- a check that stops before the set untried, with nodes q+1..n
+module _ (a : Params) (codeword : List ℕ) (budget s distance untried : ℕ) (cs : List Against) where
+  abbrev behind? : ℕ → Bool
+  behind? i = ltb (working a) i && leb i (a .n)
+
+  abbrev pub stopped? : List Bool
+  stopped? =
+      eqb 0 (checkGate a (length codeword)) ∷ within (a .n) untried ∷ none? a codeword untried cs ∷ eqb (earlier (a .n) untried) budget ∷ within (a .n) s ∷
+      allBelow (suc (a .n)) (λ i. implies (has s i) (behind? i)) ∷ allBelow (suc (a .n)) (λ i. implies (behind? i) (has s i)) ∷
+      eqb (distance + size untried) (size s) ∷ []
+
+  pub stopped-by : T (conj stopped?) → CheckPost a codeword budget (Blamed (record { set = record { 0 = s }; tried = budget; distance = distance }))
+  unfolding within
+  stopped-by h =
+      let t = each stopped? h in (
+        sym (eqb→eq _ _ (t .0)),
+        inr (record {
+          untried = untried;
+          inside = passed _ (t .1 .0);
+          first = none a codeword (valid a codeword (t .0)) untried cs (t .1 .1 .0);
+          reached = eqb→eq _ _ (t .1 .1 .1 .0);
+          set-is = λ i.
+              same-test (has s i) (behind? i)
+              (λ e. implied (has s) behind? (suc (a .n)) (t .1 .1 .1 .1 .1 .0) i
+              (omega (arith, has-le (a .n) s i (ltb→lt _ _ (t .1 .1 .1 .1 .0)) e)) e)
+              (λ e. implied behind? (has s) (suc (a .n)) (t .1 .1 .1 .1 .1 .1 .0) i
+              (omega (arith, leb-true i (a .n) (both-known (ltb (working a) i) (leb i (a .n)) e .1))) e);
+          tried-is = refl;
+          distance-is = eqb→eq _ _ (t .1 .1 .1 .1 .1 .1 .1 .0);
+        }),
+      )
 
 -- ---- sets without damaged nodes, closed changes
 
 -- a set within another test's nodes
 within-by : (from : ℕ) (f : ℕ → Bool) → from < 2 ^ 32 → T (allBelow 33 (λ i. implies (has from i) (f i))) → (i : ℕ) → has from i ≡ true → f i ≡ true
-within-by from f h t i s =
-    go (f i) (subst (λ (c : Bool). T (implies c (f i))) s (below 33 (λ i. implies (has from i) (f i)) t i (omega (arith, has-le 32 from i h s))))
-  where
-    go : (c : Bool) → T c → c ≡ true
-    go true t = refl
-    go false t = absurd t
+within-by from f h t i s = implied (has from) f 33 t i (omega (arith, has-le 32 from i h s)) s
 
 pub undamaged-by : (damaged : ℕ → Bool) (from : ℕ) → from < 2 ^ 32 → T (allBelow 33 (λ i. implies (has from i) (not (damaged i))))
     → (i : ℕ) → has from i ≡ true → damaged i ≡ false

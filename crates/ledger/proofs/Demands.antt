@@ -1,11 +1,11 @@
 -- The customer's three demands, and the law of the broken send, on one page. Demands 1 and 2 are the contracts of the calls (src/ of the crates views, encoding,
--- decoding, updates, maintenance, reconfiguration and matrix): each is proved to meet the post-condition named here, for all arguments (view_status answers viewGate). This page says what such a post-condition
--- settles, and states demand 3 and that law. Assumes nothing.
+-- decoding, updates, maintenance, checking, reconfiguration and matrix): each is proved to meet the post-condition named here, for all arguments (view_status
+-- answers viewGate). This page says what such a post-condition settles, and states demand 3 and that law. Assumes nothing.
 use mathlib.Core.Path.{_≡_, refl, sym}
 use mathlib.Core.List.{List, [], _∷_}
 use mathlib.Core.Logic.{_↔_}
-use mathlib.Core.Bool.{Bool, true, false, _||_}
-use Prim.Native.Nat.{ℕ, suc, _<_}
+use mathlib.Core.Bool.{Bool, true, false, not, _||_}
+use Prim.Native.Nat.{ℕ, suc, _+_, _-_, _≤_, _<_}
 use lib.ListN.{length, getD}
 use Rattle.base.specs.Gate.{firstNo}
 use Rattle.field.specs.Field.{Bytes}
@@ -14,17 +14,23 @@ use Rattle.matrix.specs.Invert.{InvertPost, sideAsked, lengthsAsked, inverseAsk
 use Rattle.matrix.specs.declared.Inversion.{Inversion}
 use Rattle.matrix.proofs.Existence.{invert-met}
 use Rattle.matrix.proofs.Settled.{invert-once, column-exactly}
-use Rattle.params.specs.Nodes.{has}
+use Rattle.params.specs.Nodes.{has, size, within}
+use Rattle.params.specs.Params.{working}
 use Rattle.params.specs.declared.Params.{Params}
 use Rattle.params.specs.declared.Shape.{Shape}
 use Rattle.gates.specs.Gates.{encodeGate, decodeGate, deltaGate, updateGate, repairGate, checkGate, viewGate, reconfigureGate}
+use Rattle.code.specs.declared.Blame.{Blame}
 use Rattle.code.specs.declared.Verdict.{Verdict}
+use Rattle.code.specs.declared.Verdict.the-variants.{Blamed}
+use Rattle.subsets.specs.Order.{earlier}
 use Rattle.code.specs.Code.{Gives, used}
 use Rattle.serials.specs.Serials.{Stamped}
-use Rattle.code.specs.Calls.{Post, Unwritten, EncodePost, DecodePost, DeltaPost, Updated, UpdatePost, RepairPost, ReconfigurePost, CheckPost, ViewPost, number}
-use Rattle.gates.proofs.Valid.{encode-accepted, decode-accepted}
+use Rattle.code.specs.Calls.{Post, Unwritten, EncodePost, DecodePost, DeltaPost, Updated, UpdatePost, RepairPost, ReconfigurePost, Serves, CheckPost, ViewPost, number}
+use Rattle.gates.proofs.Valid.{encode-accepted, decode-accepted, check-accepted}
 use Rattle.code.proofs.Determined.{Met, Once, BothMet, BothOnce, encode-met, encode-once, decode-met, decode-once, delta-met, delta-once, update-met, update-once, repair-met}
-use Rattle.code.proofs.Determined.{repair-once, reconfigure-met, reconfigure-once, check-met, check-once, view-met, view-once}
+use Rattle.code.proofs.Determined.{repair-once, reconfigure-met, reconfigure-once, view-met, view-once}
+use Rattle.code.proofs.Blaming.{check-met, check-once, check-number, blame-inside, blame-serves, blame-size, blame-exact, blame-seen, blame-none}
+use Rattle.code.proofs.Serving.{Same}
 use Rattle.code.proofs.Theorems.{SameAt, decode-encode, gives-same}
 use Rattle.code.specs.Sends.{Sendings, reachedBy, Covers}
 use Rattle.code.proofs.Sends.{send-accepted, resend, resend-whole}
@@ -55,7 +61,8 @@ pub record Demand1 : Type 0 where
   pub rearrangement : {a : Params} {t : Shape} {codeword serials message old numbers new serials′ : List ℕ} {from to answer : ℕ}
       → ReconfigurePost a t codeword serials from to message old numbers answer new serials′
       → BothTold (reconfigureGate a t (length codeword) (length serials) (length old) (length numbers) (length message) from to) answer old numbers new serials′
-  pub check : {a : Params} {codeword : List ℕ} (answer : Verdict) → CheckPost a codeword answer → number answer ≡ checkGate a (length codeword)
+  pub check : (a : Params) (codeword : List ℕ) (budget : ℕ) (answer : Verdict) → CheckPost a codeword budget answer
+      → number answer ≡ checkGate a (length codeword)
   pub view : (a : Params) (codeword part : List ℕ) (node : ℕ) → ViewPost a codeword node part → (viewGate a (length codeword) node ≡ 0 → ⊥)
       → part ≡ []
   pub inverse : (s : ℕ) (m old new : List ℕ) (answer : Inversion) (post : InvertPost s m old answer new)
@@ -70,7 +77,7 @@ demand-1 =
       change = both-told;
       rebuild = both-told;
       rearrangement = both-told;
-      check = λ answer post. post .0 .number;
+      check = check-number;
       view = λ a codeword part node post. post .refused;
       inverse = λ s m old new answer post. (post .first, post .refused);
     }
@@ -100,8 +107,8 @@ pub record Demand2 : Type 0 where
   pub rebuild : (a : Params) (from lost : ℕ) (old serials : List ℕ) → BothSettled (Bytes old) (RepairPost a from lost old serials)
   pub rearrangement : (a : Params) (t : Shape) (codeword serials : List ℕ) (from to : ℕ) (message old numbers : List ℕ)
       → BothSettled (Bytes codeword × Bytes message) (ReconfigurePost a t codeword serials from to message old numbers)
-  pub check : (a : Params) (codeword : List ℕ) → (Bytes codeword → (answer : Verdict) × CheckPost a codeword answer)
-      × ((answer answer′ : Verdict) → CheckPost a codeword answer → CheckPost a codeword answer′ → answer ≡ answer′)
+  pub check : (a : Params) (codeword : List ℕ) (budget : ℕ) → (Bytes codeword → (answer : Verdict) × CheckPost a codeword budget answer)
+      × ((answer answer′ : Verdict) → CheckPost a codeword budget answer → CheckPost a codeword budget answer′ → answer ≡ answer′)
   pub view : (a : Params) (codeword : List ℕ) (node : ℕ) → ((part : List ℕ) × ViewPost a codeword node part)
       × ((part part′ : List ℕ) → ViewPost a codeword node part → ViewPost a codeword node part′ → part ≡ part′)
   pub inverse : (s : ℕ) (m old : List ℕ) → (Bytes m → (answer : Inversion) × (new : List ℕ) × InvertPost s m old answer new)
@@ -121,7 +128,7 @@ demand-2 =
         λ h. reconfigure-met a t codeword serials from to message old numbers (h .0) (h .1),
         reconfigure-once a t codeword serials from to message old numbers,
       );
-      check = λ a codeword. (check-met a codeword, check-once a codeword);
+      check = λ a codeword budget. (check-met a codeword budget, check-once a codeword budget);
       view = λ a codeword node. (view-met a codeword node, view-once a codeword node);
       inverse = λ s m old. (invert-met s m old, invert-once s m old);
     }
@@ -132,6 +139,48 @@ demand-2 =
 pub demand-2-column : (s : ℕ) (m old new : List ℕ) (answer : Inversion) (c : ℕ) → firstNo (sideAsked s ∷ lengthsAsked s m old ∷ []) ≡ 0
     → InvertPost s m old answer new → ((invertNumber answer ≡ 15) × (columnNumber answer ≡ c)) ↔ FirstDependent s m c
 demand-2-column = column-exactly
+
+-- "Check now seeks the smallest set of traps whose removal leaves all others agreeing with one message and slack pair" (document 02, 2026-06). Of every accepted
+-- check, whatever its budget: the set's nodes are of 1..n, and one pair gives the blocks of all others of 1..n (Serves), ..
+pub demand-2-blame : (a : Params) (codeword : List ℕ) (budget : ℕ) (blame : Blame) → Bytes codeword → CheckPost a codeword budget (Blamed blame)
+    → (within (a .n) (blame .set .0) ≡ true) × Serves a codeword (blame .set .0)
+demand-2-blame a codeword budget blame bytes post =
+    let ok = check-accepted a _ .0 (post .0) .valid in
+    (blame-inside a codeword budget blame ok (post .1), blame-serves a codeword budget blame ok bytes (post .1))
+
+-- .. and the distance is "how far the size may be above the smallest": no set of nodes of 1..n that serves is smaller by more. So with distance 0, as every set
+-- found has, none is smaller.
+pub demand-2-blame-size : (a : Params) (codeword : List ℕ) (budget : ℕ) (blame : Blame) → CheckPost a codeword budget (Blamed blame)
+    → (s : ℕ) → within (a .n) s ≡ true → Serves a codeword s → size (blame .set .0) ≤ size s + blame .distance
+demand-2-blame-size a codeword budget blame post = blame-size a codeword budget blame (post .1)
+
+-- The pair differs from the record at the nodes of the set, which are of 1..n, and nowhere else.
+pub record DiffersAt (a : Params) (codeword message slack : List ℕ) (s : ℕ) : Type 0 where
+  pub inside : within (a .n) s ≡ true
+  pub others : Gives a message slack (λ i. not (has s i)) codeword
+  pub these : (j : ℕ) → j < a .n → has s (suc j) ≡ true → Same a message slack codeword j → ⊥
+
+-- "If some pair differs from the record in at most (n − q)/2 traps and the budget sufficed, the set is exactly those traps"; it suffices above
+-- the number of sets that come before theirs. Where more nodes are bad this promises nothing, at n − q = 1 of a single one: with (1,2,2,3) and node 3 bad, node 1
+-- is blamed (proofs/Figures.antt, 06 0A 0D).
+pub demand-2-blame-exact : (a : Params) (codeword : List ℕ) (budget : ℕ) (blame : Blame) → CheckPost a codeword budget (Blamed blame)
+    → (message slack : List ℕ) (s : ℕ) → DiffersAt a codeword message slack s → size s + size s ≤ a .n - working a → earlier (a .n) s < budget
+    → blame .set .0 ≡ s
+demand-2-blame-exact a codeword budget blame post message slack s d few reach =
+    blame-exact a codeword budget blame (check-accepted a _ .0 (post .0) .valid) message slack s (d .inside) (d .others) (d .these) few reach (post .1)
+
+-- The same where fewer sets than the budget were tried, which who calls can see: the set was then found.
+pub demand-2-blame-seen : (a : Params) (codeword : List ℕ) (budget : ℕ) (blame : Blame) → CheckPost a codeword budget (Blamed blame)
+    → (message slack : List ℕ) (s : ℕ) → DiffersAt a codeword message slack s → size s + size s ≤ a .n - working a → blame .tried < budget
+    → blame .set .0 ≡ s
+demand-2-blame-seen a codeword budget blame post message slack s d few less =
+    blame-seen a codeword budget blame (check-accepted a _ .0 (post .0) .valid) message slack s (d .inside) (d .others) (d .these) few less (post .1)
+
+-- And with a budget above 0 no node is blamed exactly where one pair gives all blocks.
+pub demand-2-blame-none : (a : Params) (codeword : List ℕ) (budget : ℕ) (blame : Blame) → Bytes codeword → CheckPost a codeword budget (Blamed blame)
+    → 0 < budget → (blame .set .0 ≡ 0) ↔ Serves a codeword 0
+demand-2-blame-none a codeword budget blame bytes post some =
+    blame-none a codeword budget blame (check-accepted a _ .0 (post .0) .valid) bytes some (post .1)
 
 -- From message to blocks, and from any r blocks back: an accepted reading through r nodes, the q lowest of which hold their blocks of an accepted set-up
 -- (SameAt), gives its message, whatever the others hold, those of R too.

@@ -17,17 +17,18 @@ use Rattle.params.specs.Params.{slackParts, working}
 use Rattle.params.specs.declared.Params.{Params}
 use Rattle.gates.specs.Gates.{encodeGate, decodeGate, deltaGate, updateGate, repairGate, reconfigureGate, checkGate, viewGate, damageGate}
 use Rattle.serials.specs.Serials.{highest}
+use Rattle.subsets.specs.Order.{before, howMany, earlier}
 use Rattle.code.specs.Code.{point, block}
 use Rattle.code.specs.Calls.{Post, Unwritten}
-use Rattle.code.specs.declared.Verdict.the-variants.{Refused, Agrees}
+use Rattle.code.specs.declared.Verdict.the-variants.{Refused, Blamed}
 use Rattle.ledger.specs.Ledger.{Held, begun, Sends, noSends, sending, Machine, opened, held, other, encode, update, repair, reconfigure, decode, delta}
 use Rattle.ledger.specs.Ledger.{check, view, Call, Event, call, damage, RecordInForce, inForce, damagedWord, encoded, updated, repaired, reconfigured}
 use Rattle.ledger.specs.Ledger.{decoded, differed, checked, viewed, damaged, Closed, Sendable, Readable, Run, done, more, History, Reading}
-use Rattle.ledger.proofs.Computed.{bytes, words, encode-by, decode-by, delta-by, update-by, repair-by, reconfigure-by, check-by, undamaged-by}
-use Rattle.ledger.proofs.Computed.{sent-none, sent-more, closed-by}
+use Rattle.ledger.proofs.Computed.{bytes, words, encode-by, decode-by, delta-by, update-by, repair-by, reconfigure-by, differing, found-by, stopped-by}
+use Rattle.ledger.proofs.Computed.{undamaged-by, sent-none, sent-more, closed-by}
 use Rattle.ledger.proofs.Invariant.{given-in-force}
 use Rattle.ledger.proofs.Demand3.{reading-is-ledger}
-use Rattle.ledger.proofs.Figures.{small, spare}
+use Rattle.ledger.proofs.Figures.{small, copies, spare}
 
 -- a call that is given the parameters, the record and the serials in force; first these, ..
 abbrev on-held : Call → Event
@@ -72,8 +73,9 @@ other-blow = damage 0b100 (0xff ∷ [])
 abbrev handing-rebuild : Event
 handing-rebuild = on-held (repair 0b011 0b100)
 
+-- a check that may try one set: none is blamed
 abbrev checking : Event
-checking = on-held check
+checking = on-held (check 1)
 
 -- ---- refused, each kind
 
@@ -111,7 +113,7 @@ bad-difference = call (record { params = record { k = 1; r = 2; w = 2; n = 3; b 
 
 -- another record, which is too short: 6
 abbrev bad-check : Event
-bad-check = call (record { params = small; codeword = other (0x06 ∷ 0x0a ∷ []); serials = held }) check
+bad-check = call (record { params = small; codeword = other (0x06 ∷ 0x0a ∷ []); serials = held }) (check 1)
 
 -- of node 0: 10
 abbrev bad-view : Event
@@ -150,9 +152,6 @@ widening =
 -- ---- accepted, several nodes damaged together
 
 -- all nodes are written anew for (1,1,3,3), which reads one node: 01 02 03
-abbrev copies : Params
-copies = record { k = 1; r = 1; w = 3; n = 3; b = 1 }
-
 abbrev thinning : Event
 thinning =
     call (record { params = record { k = 2; r = 2; w = 3; n = 3; b = 1 }; codeword = held; serials = held })
@@ -177,12 +176,16 @@ sparing =
     call (record { params = copies; codeword = held; serials = held })
     (reconfigure (record { k = 1; r = 2; w = 3; n = 3 }) (0x00 ∷ 0x00 ∷ 0x00 ∷ []) (0 ∷ 0 ∷ 0 ∷ []) (0x07 ∷ []) 0b100 0b111)
 
+-- a check that may try none stops with nodes 2 and 3
 abbrev spare-check : Event
-spare-check = on-spare check
+spare-check = on-spare (check 0)
 
--- node 3 is damaged, 07 0E FF, and rebuilt from nodes 1 and 2, of which 1 is used: 07 0E 09
+-- node 3 is damaged, 07 0E FF, found by a check, and rebuilt from nodes 1 and 2, of which 1 is used: 07 0E 09
 abbrev third-blow : Event
 third-blow = damage 0b100 (0xff ∷ [])
+
+abbrev blaming : Event
+blaming = on-spare (check 10)
 
 abbrev spare-rebuild : Event
 spare-rebuild = on-spare (repair 0b011 0b100)
@@ -230,7 +233,7 @@ abbrev boxes : List Event
 boxes = thinning ∷ box ∷ empty-box ∷ box-rebuild ∷ []
 
 abbrev third : List Event
-third = sparing ∷ spare-check ∷ third-blow ∷ spare-rebuild ∷ fourth-blow ∷ spare-reading ∷ spare-rearrangement ∷ spare-change ∷ copying ∷ []
+third = sparing ∷ spare-check ∷ third-blow ∷ blaming ∷ spare-rebuild ∷ fourth-blow ∷ spare-reading ∷ spare-rearrangement ∷ spare-change ∷ copying ∷ []
 
 abbrev pub events : List Event
 events = breaking ++ (mending ++ (refusals ++ (second ++ (boxes ++ third))))
@@ -370,7 +373,7 @@ breaking-run =
 
 mending-run : Run open-held open-machine mending repaired-held mended-machine
 unfolding updateGate repairGate checkGate damageGate firstNo slackParts working
-    has size ones within disjoint count lowest highest cell blocks tabulate block point evaluate sum add mul pow damagedWord plus
+    has size ones within disjoint count lowest highest before howMany earlier cell blocks tabulate block point evaluate sum add mul pow damagedWord plus
 mending-run =
     more {e = change-again} ((tt, tt), bytes (0x05 ∷ []) tt, omega arith, omega arith, omega arith)
     (λ _. (
@@ -385,7 +388,7 @@ mending-run =
     more {e = handing-rebuild} ((tt, tt), omega arith, omega arith)
     (λ _. (given-in-force _, record { undamaged = undamaged-by _ 0b011 (omega arith) tt; closed = mended-closed }))
     (repaired 0 (0x00 ∷ 0x0c ∷ 0x0c ∷ []) (1 ∷ 1 ∷ 1 ∷ []) (repair-by _ _ _ _ _ _ _ (0x02 ∷ []) (0x02 ∷ []) tt)) (
-    more {e = checking} (tt, tt) (λ _. record-in-force _) (checked Agrees refl (check-by _ _ (0x02 ∷ []) (0x02 ∷ []) tt)) done))))
+    more {e = checking} (tt, tt) (λ _. record-in-force _) (checked (Blamed _) refl (found-by _ _ 0b000 1 (0x02 ∷ []) (0x02 ∷ []) [] tt 1 (omega arith))) done))))
 
 -- what is refused alters nothing
 refused-run : Run repaired-held mended-machine refusals repaired-held mended-machine
@@ -404,7 +407,7 @@ refused-run =
     more {e = bad-reading} ((tt, tt), bytes (0x00 ∷ []) tt, omega arith) (λ z. absurd (never 6 z)) (decoded 7 (0x00 ∷ []) (refused 6 refl)) (
     more {e = bad-difference} (bytes [] tt, bytes [] tt, omega arith) (λ z. absurd (never 4 z)) (differed 5 [] (refused 4 refl)) (
     more {e = bad-check} (bytes (0x06 ∷ 0x0a ∷ []) tt, tt) (λ z. absurd (never 5 z))
-    (checked (Refused 6) refl (record { number = refl; served = λ z. absurd (never 5 z); refused = λ _. refl }, never 5)) (
+    (checked (Refused 6) refl (refl, never 5)) (
     more {e = bad-view} (tt, tt) (λ z. absurd (never 9 z))
     (viewed {q = 10} [] refl (record { number = refl; served = λ z. absurd (never 9 z); refused = λ _. refl })) (
     more {e = bad-blow} (omega arith, bytes (0xff ∷ 0xff ∷ []) tt) (λ _. tt) (damaged refl) done))))))))))
@@ -446,13 +449,17 @@ boxes-run =
 
 third-run : Run copied thinned third left machine
 unfolding decodeGate updateGate repairGate reconfigureGate checkGate damageGate firstNo slackParts working
-    has size ones within disjoint count lowest highest cell blocks tabulate block point evaluate sum add mul pow damagedWord plus
+    has size ones within disjoint count lowest highest before howMany earlier cell blocks tabulate block point evaluate sum add mul pow damagedWord plus
 third-run =
     more {e = sparing} ((tt, tt), bytes (0x00 ∷ 0x00 ∷ 0x00 ∷ []) tt, words (0 ∷ 0 ∷ 0 ∷ []) tt, bytes (0x07 ∷ []) tt, omega arith, omega arith)
     (λ _. (given-in-force _, record { undamaged = undamaged-by _ 0b100 (omega arith) tt; closed = over-closed }))
     (reconfigured 0 (0x07 ∷ 0x0e ∷ 0x09 ∷ []) (2 ∷ 2 ∷ 2 ∷ []) (reconfigure-by _ _ _ _ _ _ _ _ _ (0x01 ∷ []) [] [] tt _ _ refl refl)) (
-    more {e = spare-check} (tt, tt) (λ _. record-in-force _) (checked Agrees refl (check-by _ _ (0x07 ∷ []) [] tt)) (
+    more {e = spare-check} (tt, tt) (λ _. record-in-force _) (checked (Blamed _) refl (stopped-by _ _ _ 0b110 2 0b000 [] tt)) (
     more {e = third-blow} (omega arith, bytes (0xff ∷ []) tt) (λ _. tt) (damaged refl) (
+    more {e = blaming} (tt, tt) (λ _. record-in-force _)
+    (checked (Blamed _) refl
+    (found-by _ _ 0b100 4 (0x07 ∷ []) []
+    (differing 0b000 (0x07 ∷ []) [] 2 ∷ differing 0b001 (0x07 ∷ []) [] 2 ∷ differing 0b010 (0x07 ∷ []) [] 2 ∷ []) tt 10 (omega arith))) (
     more {e = spare-rebuild} ((tt, tt), omega arith, omega arith)
     (λ _. (given-in-force _, record { undamaged = undamaged-by _ 0b011 (omega arith) tt; closed = over-closed }))
     (repaired 0 (0x07 ∷ 0x0e ∷ 0x09 ∷ []) (2 ∷ 2 ∷ 2 ∷ []) (repair-by _ _ _ _ _ _ _ (0x07 ∷ []) [] tt)) (
@@ -470,7 +477,7 @@ third-run =
     (updated 0 (0x01 ∷ 0x04 ∷ 0x05 ∷ []) (3 ∷ 3 ∷ 2 ∷ []) (update-by _ _ _ _ _ _ _ _ _ (0x03 ∷ []) tt)) (
     more {e = copying} ((tt, tt), bytes (0x00 ∷ 0x00 ∷ 0x00 ∷ []) tt, words (0 ∷ 0 ∷ 0 ∷ []) tt, bytes (0x04 ∷ []) tt, omega arith, omega arith)
     (λ _. (given-in-force _, record { undamaged = undamaged-by _ 0b111 (omega arith) tt; closed = spared-closed }))
-    (reconfigured 0 (0xf2 ∷ 0xf7 ∷ 0x05 ∷ []) (3 ∷ 3 ∷ 2 ∷ []) (reconfigure-by _ _ _ _ _ _ _ _ _ (0x00 ∷ []) (0x01 ∷ []) (0xf6 ∷ []) tt _ _ refl refl)) done))))))))
+    (reconfigured 0 (0xf2 ∷ 0xf7 ∷ 0x05 ∷ []) (3 ∷ 3 ∷ 2 ∷ []) (reconfigure-by _ _ _ _ _ _ _ _ _ (0x00 ∷ []) (0x01 ∷ []) (0xf6 ∷ []) tt _ _ refl refl)) done)))))))))
 
 -- one list after another
 followed : {h h′ h″ : Held} {m m′ m″ : Machine} {es es′ : List Event} → Run h m es h′ m′ → Run h′ m′ es′ h″ m″ → Run h m (es ++ es′) h″ m″

@@ -194,7 +194,7 @@ module _ (h : Held) (m : Machine) (i : Agrees h m) where
       given g (reconfigure t buffer numbers x from to) (al .0) (reconfigure-keeps t buffer numbers x from to (al .1)) h′ st
   accepted-keeps (call g (decode buffer from)) ty al h′ (decoded _ out post) = i
   accepted-keeps (call g (delta d buffer to)) ty al h′ (differed _ out post) = i
-  accepted-keeps (call g check) ty al h′ (checked verdict e post) = i
+  accepted-keeps (call g (check budget)) ty al h′ (checked verdict e post) = i
   accepted-keeps (call g (view node)) ty al h′ (viewed part e post) = i
   accepted-keeps (damage nodes bytes) ty al h′ st = damage-keeps nodes bytes h′ st
 

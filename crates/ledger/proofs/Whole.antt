@@ -26,7 +26,8 @@ use Rattle.serials.specs.Serials.{Words32, takes, highest, Stamped}
 use Rattle.serials.proofs.Laws.{highest-words, stamped-words}
 use Rattle.code.specs.Calls.{Post, Unwritten, EncodePost, DecodePost, UpdatePost, RepairPost, ReconfigurePost, writes}
 use Rattle.code.proofs.Additivity.{block-byte}
-use Rattle.code.proofs.Determined.{encode-met, encode-once, decode-met, delta-met, update-met, update-once, repair-met, repair-once, reconfigure-met, reconfigure-once, check-met, view-met}
+use Rattle.code.proofs.Determined.{encode-met, encode-once, decode-met, delta-met, update-met, update-once, repair-met, repair-once, reconfigure-met, reconfigure-once, view-met}
+use Rattle.code.proofs.Blaming.{check-met, check-number}
 use Rattle.ledger.specs.Ledger.{Held, Machine, Lent, held, other, Given, encode, update, repair, reconfigure, decode, delta, check, view}
 use Rattle.ledger.specs.Ledger.{Event, call, damage, bytesLent, bytesLeft, lent, serialsLent, wrote, moved, damagedWord, damagedHeld}
 use Rattle.ledger.specs.Ledger.{Step, encoded, updated, repaired, reconfigured, decoded, differed, checked, viewed, damaged}
@@ -210,7 +211,7 @@ step-whole h (call g (reconfigure t buffer numbers x from to)) w ty (reconfigure
     moved-whole h (g .params) t _ _ from to x buffer numbers answer new serials w (lent-bytes h g w (ty .0)) (lent-words h g w (ty .0)) post
 step-whole h (call g (decode buffer from)) w t (decoded answer out post) = w
 step-whole h (call g (delta d buffer to)) w t (differed answer out post) = w
-step-whole h (call g check) w t (checked verdict e post) = w
+step-whole h (call g (check budget)) w t (checked verdict e post) = w
 step-whole h (call g (view node)) w t (viewed part e post) = w
 step-whole h (damage nodes bytes) w t (damaged {q = q} e) = damaged-whole q h nodes bytes w (t .1)
 
@@ -249,7 +250,8 @@ step-exists h (call g (reconfigure s buffer numbers x from to)) w t =
 step-exists h (call g (decode buffer from)) w t =
     let m = decode-met (g .params) (lent h g) from buffer (lent-bytes h g w (t .0)) in (_, h, decoded (m .0) (m .1) (m .2))
 step-exists h (call g (delta d buffer to)) w t = let m = delta-met (g .params) d to buffer in (_, h, differed (m .0) (m .1) (m .2))
-step-exists h (call g check) w t = let m = check-met (g .params) (lent h g) (lent-bytes h g w t) in (_, h, checked (m .0) refl (m .1))
+step-exists h (call g (check budget)) w t =
+    let m = check-met (g .params) (lent h g) budget (lent-bytes h g w t) in (_, h, checked (m .0) refl (m .1))
 step-exists h (call g (view node)) w t = let m = view-met (g .params) (lent h g) node in (_, h, viewed (m .0) refl (m .1))
 step-exists h (damage nodes bytes) w t = (_, _, damaged refl)
 
@@ -269,8 +271,8 @@ step-unique h (call g (reconfigure s buffer numbers x from to)) (reconfigured an
     (e .0, ap (λ (q : ℕ). moved q h (g .params) s new serials) (e .0) ∙ ap₂ (moved answer′ h (g .params) s) (e .1) (e .2))
 step-unique h (call g (decode buffer from)) (decoded answer out post) (decoded answer′ out′ post′) = (post .number ∙ sym (post′ .number), refl)
 step-unique h (call g (delta d buffer to)) (differed answer out post) (differed answer′ out′ post′) = (post .number ∙ sym (post′ .number), refl)
-step-unique h (call g check) (checked verdict e post) (checked verdict′ e′ post′) =
-    (e ∙ post .0 .number ∙ sym (e′ ∙ post′ .0 .number), refl)
+step-unique h (call g (check budget)) (checked verdict e post) (checked verdict′ e′ post′) =
+    let gate = check-number (g .params) (lent h g) budget in (e ∙ gate verdict post ∙ sym (e′ ∙ gate verdict′ post′), refl)
 step-unique h (call g (view node)) (viewed part e post) (viewed part′ e′ post′) = (e ∙ sym e′, refl)
 step-unique h (damage nodes bytes) (damaged e) (damaged e′) = (e ∙ sym e′, ap (λ (q : ℕ). damagedHeld q h nodes bytes) (e ∙ sym e′))
 

@@ -1,5 +1,5 @@
--- "The ledger machine" (document 01; document 02, 2026-03, 2026-04): lists of calls and damage, what they do to the record and the serials beside it, and what the machine
--- keeps of them. The calls' own definitions and gates are those that the code's contracts cite. Assumes nothing.
+-- "The ledger machine" (document 01; document 02, 2026-03, 2026-04, 2026-06): lists of calls and damage, what they do to the record and the serials beside it, and
+-- what the machine keeps of them. The calls' own definitions and gates are those that the code's contracts cite. Assumes nothing.
 use mathlib.Core.Path.{_≡_}
 use mathlib.Core.Bool.{Bool, true, false, not, _&&_, _||_, cond}
 use mathlib.Core.List.{List, [], _∷_}
@@ -104,7 +104,7 @@ pub data Call : Type 0 where
   reconfigure : Shape → (buffer numbers message : List ℕ) → (from to : ℕ) → Call
   decode : (buffer : List ℕ) → (from : ℕ) → Call
   delta : (change buffer : List ℕ) → (to : ℕ) → Call
-  check : Call
+  check : (budget : ℕ) → Call
   view : (node : ℕ) → Call
 
 -- "All else that a call is given is written in the list as bytes and numbers": each event has arguments of its own, of any size.
@@ -185,7 +185,8 @@ pub data Step (h : Held) : Event → ℕ → Held → Type 0 where
       → DecodePost (g .params) (lent h g) from buffer answer out → Step h (call g (decode buffer from)) answer h
   differed : {g : Given} {d buffer : List ℕ} {to : ℕ} (answer : ℕ) (out : List ℕ)
       → DeltaPost (g .params) d to buffer answer out → Step h (call g (delta d buffer to)) answer h
-  checked : {g : Given} {q : ℕ} (verdict : Verdict) → q ≡ number verdict → CheckPost (g .params) (lent h g) verdict → Step h (call g check) q h
+  checked : {g : Given} {budget q : ℕ} (verdict : Verdict) → q ≡ number verdict → CheckPost (g .params) (lent h g) budget verdict
+      → Step h (call g (check budget)) q h
   viewed : {g : Given} {node q : ℕ} (part : List ℕ) → q ≡ viewGate (g .params) (length (lent h g)) node → ViewPost (g .params) (lent h g) node part
       → Step h (call g (view node)) q h
   damaged : {nodes q : ℕ} {bytes : List ℕ} → q ≡ damageGate (h .params .n) nodes → Step h (damage nodes bytes) q (damagedHeld q h nodes bytes)
@@ -208,7 +209,7 @@ effect m (call g (reconfigure t buffer numbers x from to)) =
     (withLedger x (withDamaged (λ i. ((m .damaged i && not (has to i)) && leb i (g .params .n)) && leb i (t .n)) m))
 effect m (call g (decode buffer from)) = m
 effect m (call g (delta d buffer to)) = m
-effect m (call g check) = m
+effect m (call g (check budget)) = m
 effect m (call g (view node)) = m
 -- "Damage to trap i .. puts i in the set": each of its nodes.
 effect m (damage nodes bytes) = withDamaged (λ i. m .damaged i || has nodes i) m
@@ -254,11 +255,11 @@ Allowed h m (call g (repair from lost)) = InForce h g × Readable m from
 Allowed h m (call g (reconfigure t buffer numbers x from to)) = InForce h g × Readable m from
 Allowed h m (call g (decode buffer from)) = RecordInForce h g
 Allowed h m (call g (delta d buffer to)) = g .params ≡ h .params
-Allowed h m (call g check) = RecordInForce h g
+Allowed h m (call g (check budget)) = RecordInForce h g
 Allowed h m (call g (view node)) = RecordInForce h g
 Allowed h m (damage nodes bytes) = Unit {0}
 
--- What the types of the arguments say: bytes are bytes, serials and sets have 32 bits.
+-- What the types of the arguments say: bytes are bytes, serials and sets have 32 bits. A check's budget is any number.
 abbrev pub LentAs : (List ℕ → Type 0) → Lent → Type 0
 LentAs P held = Unit {0}
 LentAs P (other numbers) = P numbers
@@ -274,7 +275,7 @@ Typed (call g (reconfigure t buffer numbers x from to)) =
     GivenTyped g × Bytes buffer × Words32 numbers × Bytes x × (from < 2 ^ 32) × (to < 2 ^ 32)
 Typed (call g (decode buffer from)) = GivenTyped g × Bytes buffer × (from < 2 ^ 32)
 Typed (call g (delta d buffer to)) = Bytes d × Bytes buffer × (to < 2 ^ 32)
-Typed (call g check) = GivenTyped g
+Typed (call g (check budget)) = GivenTyped g
 Typed (call g (view node)) = GivenTyped g
 Typed (damage nodes bytes) = (nodes < 2 ^ 32) × Bytes bytes
 

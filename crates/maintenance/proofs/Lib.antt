@@ -1,2 +1,1 @@
 mod Rebuilding
-mod Examining

@@ -1,6 +1,4 @@
-// The calls that mend a record and look it over (document 01): rebuild and check. Each is its gate, and then a private core, which knows of no gate.
-mod checking;
+// The call that mends a record (document 01): rebuild. It is its gate, and then a private core, which knows of no gate.
 mod repairing;
 
-pub use checking::check;
 pub use repairing::repair;

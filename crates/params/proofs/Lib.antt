@@ -3,3 +3,4 @@ mod Words
 pub mod Placing
 pub mod Outside
 pub mod Lowest
+pub mod Behind

@@ -3,15 +3,14 @@ use mathlib.Core.Path.{_≡_, refl, sym, ap, ap₂, _∙_}
 use mathlib.Core.Logic.{⊎-elim}
 use mathlib.Core.Bool.{Bool, true, false, _&&_, true≢false}
 use Prim.Native.Nat.{ℕ, zero, suc, _+_, _^_, min, _≤_, _<_}
-use native.Mathlib.Nat.{le-refl, le-trans}
 use native.Mathlib.Omega.{arith}
 use borrow.Author.Tests.{lt-ltb, le-ltb, ltb-true, ltb-false}
-use lib.Dec.{leb, ltb}
+use lib.Dec.{ltb}
 use Rattle.base.specs.Seq.{one}
 use Rattle.base.proofs.Cases.{lt-or}
 use Rattle.base.proofs.Questions.{both-known}
 use Rattle.params.specs.Nodes.{has, size, count, lowest}
-use Rattle.params.proofs.Sets.{count-mono, count-ext, count-range, range-yes, range-no, size-count, rank-inside}
+use Rattle.params.proofs.Sets.{count-mono, count-ext, size-count, rank-inside}
 
 -- ---- over a test
 
@@ -40,22 +39,6 @@ lowest-below q f (suc i) j e h out =
     let low = ltb-true (count f i) q (both-known (f (suc i)) (ltb (count f i) q) e .1) in
     let high = ltb-false (count f j) q (ap (λ (b : Bool). b && ltb (count f j) q) (sym h) ∙ out) in
     ⊎-elim (λ (l : i < j). omega arith) (λ (g : j ≤ i). absurd (omega (arith, count-mono f j i g))) (lt-or i j)
-
--- those of 1..n are 1..q
-pub lowest-range : (q n : ℕ) → q ≤ n → (i : ℕ) → lowest q (λ i. leb 1 i && leb i n) i ≡ (leb 1 i && leb i q)
-unfolding lowest
-lowest-range q n h zero = refl
-lowest-range q n h (suc j) =
-    ⊎-elim
-    (λ (l : j < n).
-    ap₂ (λ (b : Bool) (m : ℕ). b && ltb m q) (range-yes n j l) (below l)
-    ∙ ⊎-elim (λ (y : j < q). lt-ltb j q y ∙ sym (range-yes q j y)) (λ (y : q ≤ j). le-ltb j q y ∙ sym (range-no q j y)) (lt-or j q))
-    (λ (g : n ≤ j).
-    ap (λ (b : Bool). b && ltb (count (λ i. leb 1 i && leb i n) j) q) (range-no n j g) ∙ sym (range-no q j (le-trans h g)))
-    (lt-or j n)
-  where
-    below : j < n → count (λ i. leb 1 i && leb i n) j ≡ j
-    below l = count-ext _ (λ i. leb 1 i && leb i j) j (λ i hi. range-yes n i (omega arith) ∙ sym (range-yes j i hi)) ∙ count-range j j (le-refl j)
 
 -- ---- over a set
 

@@ -4,7 +4,7 @@ use mathlib.Core.Logic.{_↔_, ⊎-elim}
 use mathlib.Core.Bool.{Bool, true, false, not, _&&_, true≢false}
 use mathlib.Core.List.{List, [], _++_, append-nil}
 use Prim.Native.Nat.{ℕ, zero, suc, _+_, _-_, _*_, _/_, _%_, _^_, min, _≤_, _<_, zero-le}
-use native.Mathlib.Nat.{not-suc-le-zero, le-refl, zero-lt-suc, lt-of-lt-of-le, lt-of-le-of-lt, one-mul, zero-min, min-le-left}
+use native.Mathlib.Nat.{not-suc-le-zero, le-refl, zero-lt-suc, lt-of-lt-of-le, lt-of-le-of-lt, one-mul, zero-min, min-le-left, pow-suc}
 use native.Mathlib.Nat.{mod-one, mod-lt, mod-eq-of-lt, div-eq-of-lt, div-lt-iff-lt-mul}
 use native.Mathlib.Numerals.{one-add}
 use native.Mathlib.Omega.{arith}
@@ -293,9 +293,17 @@ low-same (suc k) l r h =
     ∙ ap₂ (λ (b x : ℕ). b * 2 ^ k + x) top (low-same k l r h)
     ∙ sym (mod-pow-add r 1 k) ∙ ap (λ (e : ℕ). r % 2 ^ e) (one-add k)
 
--- sets with the same nodes are equal
-pub same-set : (l r : ℕ) → l < 2 ^ 32 → r < 2 ^ 32 → ((i : ℕ) → has l i ≡ has r i) → l ≡ r
-same-set l r hl hr h = sym (mod-eq-of-lt hl) ∙ low-same 32 l r h ∙ mod-eq-of-lt hr
+-- sets with the same nodes are equal: below any power of two, ..
+same-below : (k l r : ℕ) → l < 2 ^ k → r < 2 ^ k → ((i : ℕ) → has l i ≡ has r i) → l ≡ r
+same-below k l r hl hr h = sym (mod-eq-of-lt hl) ∙ low-same k l r h ∙ mod-eq-of-lt hr
+
+-- .. and every number is below some
+pub same-nodes : (l r : ℕ) → ((i : ℕ) → has l i ≡ has r i) → l ≡ r
+same-nodes l r = same-below (l + r) l r (lt-of-lt-of-le (lt-pow l) (pow-mono (omega arith))) (lt-of-lt-of-le (lt-pow r) (pow-mono (omega arith)))
+  where
+    lt-pow : (s : ℕ) → s < 2 ^ s
+    lt-pow zero = zero-lt-suc 0
+    lt-pow (suc s) = omega (arith, lt-pow s, pow-suc 2 s)
 
 -- Two tests that together are passed more often than there are nodes are both passed by some node.
 abbrev pub Both : (ℕ → Bool) → (ℕ → Bool) → ℕ → Type 0
@@ -315,3 +323,51 @@ meet f g (suc n) h = go (f (suc n)) refl (g (suc n)) refl (meet f g n) h
     go true e false e′ below k = higher (below (omega arith))
     go false e true e′ below k = higher (below (omega arith))
     go false e false e′ below k = higher (below (omega arith))
+
+-- ---- one set in another
+
+-- tests that are passed together are equal
+pub same-test : (b c : Bool) → (b ≡ true → c ≡ true) → (c ≡ true → b ≡ true) → b ≡ c
+same-test true c h k = sym (h refl)
+same-test false true h k = k refl
+same-test false false h k = refl
+
+pub one-mono : (b c : Bool) → (b ≡ true → c ≡ true) → one b ≤ one c
+one-mono true c h = omega (arith, ap one (h refl))
+one-mono false c h = zero-le
+
+module _ (f g : ℕ → Bool) where
+  -- where each node that passes one test passes another, no more of them do; ..
+  pub count-sub : (n : ℕ) → ((j : ℕ) → j < n → f (suc j) ≡ true → g (suc j) ≡ true) → count f n ≤ count g n
+  unfolding count
+  count-sub zero h = zero-le
+  count-sub (suc n) h = omega (arith, count-sub n (λ j hj. h j (omega arith)), one-mono (f (suc n)) (g (suc n)) (h n (le-refl (suc n))))
+
+  -- .. and if no fewer do, both are passed by the same
+  count-same : (n : ℕ) → ((j : ℕ) → j < n → f (suc j) ≡ true → g (suc j) ≡ true) → count g n ≤ count f n → (j : ℕ) → j < n → g (suc j) ≡ true
+      → f (suc j) ≡ true
+  unfolding count
+  count-same zero h few j hj e = absurd (not-suc-le-zero hj)
+  count-same (suc n) h few j hj e =
+      let less : (i : ℕ) → i < n → f (suc i) ≡ true → g (suc i) ≡ true = λ i hi. h i (omega arith) in
+      ⊎-elim (λ l. count-same n less (omega (arith, one-mono (f (suc n)) (g (suc n)) (h n (le-refl (suc n))))) j l e)
+      (λ l.
+      let top : j ≡ n = omega arith in
+      subst (λ (i : ℕ). f (suc i) ≡ true) (sym top)
+      (one-pos (f (suc n)) (omega (arith, count-sub n less, ap one (subst (λ (i : ℕ). g (suc i) ≡ true) top e)))))
+      (lt-or j n)
+
+-- a set that has all of another's nodes, and no more of them, is the other
+pub same-subset : (n l r : ℕ) → within n l ≡ true → within n r ≡ true → ((j : ℕ) → j < n → has l (suc j) ≡ true → has r (suc j) ≡ true) → size r ≤ size l
+    → r ≡ l
+unfolding has within
+same-subset n l r wl wr h few = same-nodes r l same
+  where
+    same : (i : ℕ) → has r i ≡ has l i
+    same zero = refl
+    same (suc j) =
+        ⊎-elim
+        (λ hj.
+        same-test (has r (suc j)) (has l (suc j))
+        (count-same (has l) (has r) n h (omega (arith, within-size n l wl, within-size n r wr)) j hj) (h j hj))
+        (λ g. has-past n r j (ltb-true r (2 ^ n) wr) g ∙ sym (has-past n l j (ltb-true l (2 ^ n) wl) g)) (lt-or j n)

@@ -59,7 +59,7 @@ has-not k s (suc j) h =
     ∙ ap (λ (b : Bool). b && not (has s (suc j))) (sym (range-no k j g)))
     (lt-or j k)
 
-has-ones : (k i : ℕ) → has (2 ^ k - 1) i ≡ (leb 1 i && leb i k)
+pub has-ones : (k i : ℕ) → has (2 ^ k - 1) i ≡ (leb 1 i && leb i k)
 has-ones k i =
     ap (λ (x : ℕ). has x i) (sym (sub-zero (2 ^ k - 1))) ∙ has-not k 0 i (pow-pos k)
     ∙ ap (λ (b : Bool). (leb 1 i && leb i k) && not b) (has-none i) ∙ and-true (leb 1 i && leb i k)

@@ -39,7 +39,7 @@ FromUndamaged m (call g (encode x v)) = Unit {0}
 FromUndamaged m (call g (update d to serial reached)) = Unit {0}
 FromUndamaged m (call g (decode buffer from)) = Unit {0}
 FromUndamaged m (call g (delta d buffer to)) = Unit {0}
-FromUndamaged m (call g check) = Unit {0}
+FromUndamaged m (call g (check budget)) = Unit {0}
 FromUndamaged m (call g (view node)) = Unit {0}
 FromUndamaged m (damage nodes bytes) = Unit {0}
 

@@ -4,7 +4,7 @@ use crate::lent::Lent;
 use jirvents::{Params, Refusal};
 use reference::calls::{Move, Sending};
 use reference::cases::Calls;
-use reference::Arrangement;
+use reference::{Arrangement, Blame};
 
 pub struct Library;
 
@@ -165,12 +165,16 @@ impl Calls for Library {
         number(result)
     }
 
-    fn check(&self, a: &Arrangement, record: &[u8]) -> (u64, Option<u64>) {
+    fn check(&self, a: &Arrangement, record: &[u8], budget: u64) -> (u64, Option<Blame>) {
         let codeword = Lent::new(record);
-        let result = jirvents::check(params(a), codeword.items());
+        let result = jirvents::check(params(a), codeword.items(), size(budget));
         codeword.test_unchanged(record);
-        let node = result.ok().map(|node| node.unwrap_or(0).into());
-        (number(result), node)
+        let blame = result.ok().map(|found| Blame {
+            set: found.set,
+            tried: found.tried as u64,
+            distance: found.distance as u64,
+        });
+        (number(result), blame)
     }
 
     fn view<'r>(&self, a: &Arrangement, record: &'r [u8], trap: u64) -> (u64, &'r [u8]) {

@@ -132,6 +132,7 @@ pub fn right(rng: &mut Rng, call: Call, a: Arrangement) -> Case {
         Call::Check => Case::Check {
             a,
             record: nearly_sound(rng, &a),
+            budget: any_budget(rng, n),
         },
         Call::View => Case::View {
             a,
@@ -155,6 +156,13 @@ fn nearly_sound(rng: &mut Rng, a: &Arrangement) -> Vec<u8> {
     record
 }
 
+/// Few sets, since the reference takes its time for each; for few traps also all.
+fn any_budget(rng: &mut Rng, n: u64) -> u64 {
+    let some = rng.range(3, 40);
+    let most = if n <= 8 { u64::MAX } else { some };
+    rng.pick(&[0, 1, 2, some, most])
+}
+
 /// One argument of a case.
 enum Place<'a> {
     Number(&'a mut u64),
@@ -170,7 +178,7 @@ fn shape_places(shape: &mut Shape) -> Vec<Place<'_>> {
     [k, r, w, n].into_iter().map(Place::Number).collect()
 }
 
-/// All arguments of a case.
+/// All arguments of a case but the budget of a check, which no question is about.
 fn places(case: &mut Case) -> Vec<Place<'_>> {
     use Place::{Bytes, Choice, Number, Serial, Serials, Trap};
     let (a, mut places) = match case {
@@ -238,7 +246,7 @@ fn places(case: &mut Case) -> Vec<Place<'_>> {
             places.extend([Bytes(message), Bytes(new), Serials(new_serials)]);
             (a, places)
         }
-        Case::Check { a, record } => (a, vec![Bytes(record)]),
+        Case::Check { a, record, .. } => (a, vec![Bytes(record)]),
         Case::View { a, record, trap } => (a, vec![Bytes(record), Trap(trap)]),
     };
     places.extend(shape_places(&mut a.shape));

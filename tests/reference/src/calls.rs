@@ -1,6 +1,7 @@
-//! The calls of document 01, as requests 2026-01 and 2026-03 of document 02 have
-//! them. Each gives its number first; a refusal writes nothing.
+//! The calls of document 01, as requests 2026-01, 2026-03 and 2026-06 of document 02
+//! have them. Each gives its number first; a refusal writes nothing.
 
+use crate::blame::{blame, Blame};
 use crate::blocks::{add_to, Block};
 use crate::gate::{self, Arrangement, RearrangementLengths, Shape};
 use crate::pair::{names, place, traps_of, traps_outside, Pair};
@@ -188,17 +189,14 @@ fn new_pair(a: &Arrangement, record: &[u8], given: &Move) -> Pair {
     Pair::with_message(given.message, &given.to, a.b as usize, &wanted)
 }
 
-/// Check: 0 if all blocks come from the pair of traps 1..q, else the lowest
-/// trap whose block differs. A refused check has no trap.
-pub fn check(a: &Arrangement, record: &[u8]) -> (u64, Option<u64>) {
+/// Check: which traps to blame, of at most `budget` sets that are tried. A refused
+/// check gives its number alone.
+pub fn check(a: &Arrangement, record: &[u8], budget: u64) -> (u64, Option<Blame>) {
     let number = gate::gate_record(a, record.len());
     if number != 0 {
         return (number, None);
     }
-    let first: Vec<u64> = (1..=a.shape.q()).collect();
-    let pair = Pair::through(a, record, &first);
-    let differs = |&trap: &u64| pair.block(trap) != record[place(trap, a.b as usize)];
-    (0, Some((1..=a.shape.n).find(differs).unwrap_or(0)))
+    (0, Some(blame(a, record, budget)))
 }
 
 /// View: the part of the record that is trap i's block; empty if refused.

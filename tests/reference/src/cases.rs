@@ -1,7 +1,7 @@
 //! One call with all its arguments, to be put to any implementation.
 
 use crate::calls::{Move, Sending};
-use crate::{Arrangement, Shape};
+use crate::{Arrangement, Blame, Shape};
 
 /// An implementation of the calls. Each gives its number and writes its buffers
 /// in place.
@@ -42,7 +42,8 @@ pub trait Calls {
         new: &mut [u8],
         new_serials: &mut [u32],
     ) -> u64;
-    fn check(&self, a: &Arrangement, record: &[u8]) -> (u64, Option<u64>);
+    /// A refused check gives its number alone.
+    fn check(&self, a: &Arrangement, record: &[u8], budget: u64) -> (u64, Option<Blame>);
     fn view<'r>(&self, a: &Arrangement, record: &'r [u8], trap: u64) -> (u64, &'r [u8]);
 }
 
@@ -106,8 +107,8 @@ impl Calls for Reference {
         crate::rearrangement(a, record, serials, given, new, new_serials)
     }
 
-    fn check(&self, a: &Arrangement, record: &[u8]) -> (u64, Option<u64>) {
-        crate::check(a, record)
+    fn check(&self, a: &Arrangement, record: &[u8], budget: u64) -> (u64, Option<Blame>) {
+        crate::check(a, record, budget)
     }
 
     fn view<'r>(&self, a: &Arrangement, record: &'r [u8], trap: u64) -> (u64, &'r [u8]) {
@@ -172,6 +173,7 @@ pub enum Case {
     Check {
         a: Arrangement,
         record: Vec<u8>,
+        budget: u64,
     },
     View {
         a: Arrangement,
@@ -188,8 +190,8 @@ pub struct Outcome {
     pub bytes: Vec<u8>,
     /// What the serials are; of a rearrangement, the new ones.
     pub serials: Vec<u32>,
-    /// Check's trap.
-    pub trap: Option<u64>,
+    /// Check's set, how many it tried, and the distance.
+    pub blame: Option<Blame>,
     /// The column that the inverse gives with 15.
     pub column: Option<u64>,
 }
@@ -200,7 +202,7 @@ impl Outcome {
             number,
             bytes,
             serials: Vec::new(),
-            trap: None,
+            blame: None,
             column: None,
         }
     }
@@ -305,10 +307,10 @@ impl Case {
                     ..Outcome::new(number, new)
                 }
             }
-            Case::Check { a, record } => {
-                let (number, trap) = calls.check(a, record);
+            Case::Check { a, record, budget } => {
+                let (number, blame) = calls.check(a, record, *budget);
                 Outcome {
-                    trap,
+                    blame,
                     ..Outcome::new(number, Vec::new())
                 }
             }

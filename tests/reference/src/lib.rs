@@ -1,10 +1,12 @@
-//! A reference of document 01 and of requests 2026-01 and 2026-03 to 2026-05 of
+//! A reference of document 01 and of requests 2026-01 and 2026-03 to 2026-06 of
 //! document 02, written from these documents alone.
 //!
 //! It shares no method with an implementation by tables and elimination:
 //! products are made by shift and reduce, the pair is found by Newton's
-//! interpolation, and the matrix inverse works on columns.
+//! interpolation, anew for each set that a check tries, and the matrix inverse
+//! works on columns.
 
+pub mod blame;
 pub mod blocks;
 pub mod calls;
 pub mod cases;
@@ -18,6 +20,7 @@ pub mod polynomial;
 pub mod season;
 pub mod vectors;
 
+pub use blame::Blame;
 pub use calls::{change, check, difference, reading, rearrangement, rebuild, setup, view};
 pub use gate::{Arrangement, Shape};
 pub use matrix::inverse;

@@ -123,6 +123,7 @@ impl<'a> Fields<'a> {
             "check" => Case::Check {
                 a: self.arrangement()?,
                 record: self.bytes("record")?,
+                budget: self.number("budget")?,
             },
             "view" => Case::View {
                 a: self.arrangement()?,
@@ -167,9 +168,14 @@ fn to_list(numbers: &[u32]) -> String {
     texts.join(",")
 }
 
-/// A trap or a column, `-` where there is none.
+/// A column, `-` where there is none.
 fn told(value: Option<u64>) -> String {
     value.map_or("-".to_string(), |v| v.to_string())
+}
+
+/// An accepted check's result.
+fn blamed(set: u32, tried: u64, distance: u64) -> String {
+    format!("0 set={set:08x} tried={tried} distance={distance}")
 }
 
 /// An outcome as a line has it behind its arrow.
@@ -182,7 +188,8 @@ fn behind_arrow(case: &Case, outcome: &Outcome) -> String {
         Case::Rearrangement { .. } => ("new", Some("new_serials")),
         Case::View { .. } => ("part", None),
         Case::Check { .. } => {
-            return format!("{} trap={}", outcome.number, told(outcome.trap));
+            let accepted = outcome.blame.map(|b| blamed(b.set, b.tried, b.distance));
+            return accepted.unwrap_or(outcome.number.to_string());
         }
     };
     let mut text = format!("{} {name}={}", outcome.number, to_hex(&outcome.bytes));
@@ -240,6 +247,31 @@ fn additions(call: &str, fields: &Fields, expected: &str) -> Parsed<(String, Str
     })
 }
 
+/// The result of a check of an earlier state, `trap=` and a trap, as request 2026-06
+/// has it for a budget of 1. If no trap differs from the pair of traps 1..q, the
+/// empty set serves; else the check is stopped, and a set of one is the next.
+fn stopped_check(fields: &Fields, expected: &str) -> Parsed<String> {
+    let (number, trap) = expected.split_once(" trap=").ok_or("no trap")?;
+    if trap == "-" {
+        return Ok(number.to_string());
+    }
+    if trap == "0" {
+        return Ok(blamed(0, 1, 0));
+    }
+    let shape = fields.shape("")?;
+    let set = (shape.q()..shape.n).fold(0, |set, bit| set | 1 << bit);
+    Ok(blamed(set, 1, shape.n - shape.q() - 1))
+}
+
+/// What the requests add to a line's arguments, and the line's result after them.
+fn renewed(call: &str, fields: &Fields, expected: &str) -> Parsed<(String, String)> {
+    if call == "check" && fields.text("budget").is_err() {
+        return Ok((" budget=1".to_string(), stopped_check(fields, expected)?));
+    }
+    let (given, left) = additions(call, fields, expected)?;
+    Ok((given, format!("{expected}{left}")))
+}
+
 /// How a line and an implementation's outcome compare.
 #[derive(Clone, Copy, Debug, PartialEq, Eq)]
 pub enum Verdict {
@@ -271,11 +303,8 @@ pub struct Tried<'a> {
 pub fn try_line<'a>(line: &'a str, calls: &dyn Calls) -> Parsed<Tried<'a>> {
     let (before, expected) = line.split_once(" -> ").ok_or("no arrow")?;
     let (call, rest) = before.split_once(' ').ok_or("no arguments")?;
-    let (given, left) = additions(call, &Fields::parse(rest)?, expected)?;
-    let (rest, expected) = (
-        format!("{rest}{given}"),
-        format!("{}{left}", expected.trim_end()),
-    );
+    let (given, expected) = renewed(call, &Fields::parse(rest)?, expected.trim_end())?;
+    let rest = format!("{rest}{given}");
     let case = Fields::parse(&rest)?.case(call)?;
     let outcome = case.run(calls);
     let found = behind_arrow(&case, &outcome);

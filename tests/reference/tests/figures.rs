@@ -18,6 +18,14 @@ fn read(record: &[u8], traps: u32) -> u8 {
     out[0]
 }
 
+/// The set to blame, found within a budget that suffices, and how many were tried.
+fn blamed(a: &Arrangement, record: &[u8]) -> (u32, u64) {
+    let (number, blame) = check(a, record, 8);
+    let blame = blame.unwrap();
+    assert_eq!((number, blame.distance), (0, 0));
+    (blame.set, blame.tried)
+}
+
 #[test]
 fn the_history_of_the_figures() {
     let a = arrangement();
@@ -60,9 +68,9 @@ fn rearranged_with_all_traps_written() {
 fn check_and_view_of_the_record() {
     let a = arrangement();
     let good = [0x03, 0x0C, 0x0F];
-    assert_eq!(check(&a, &good), (0, Some(0)));
-    assert_eq!(check(&a, &[0x03, 0x0C, 0x0E]), (0, Some(3)));
-    assert_eq!(check(&a, &[0x02, 0x0C, 0x0F]), (0, Some(3)));
+    assert_eq!(blamed(&a, &good), (0, 1));
+    assert_eq!(blamed(&a, &[0x03, 0x0C, 0x0E]), (0b001, 2));
+    assert_eq!(blamed(&a, &[0x02, 0x0C, 0x0F]), (0b001, 2));
     assert_eq!(view(&a, &good, 2), (0, &good[1..2]));
     assert_eq!(view(&a, &good, 4), (10, &[][..]));
 }
@@ -116,11 +124,14 @@ fn rebuilds_from_the_lower_of_two_traps() {
 }
 
 #[test]
-fn checks_by_trap_one() {
-    assert_eq!(check(&loose(), &[0x07, 0x0E, 0x09]), (0, Some(0)));
-    assert_eq!(check(&loose(), &[0x07, 0xFF, 0x09]), (0, Some(2)));
-    assert_eq!(check(&loose(), &[0x07, 0x0E, 0x08]), (0, Some(3)));
-    assert_eq!(check(&loose(), &[0xF1, 0x0E, 0x09]), (0, Some(2)));
+fn checks_of_three_traps() {
+    assert_eq!(blamed(&loose(), &[0x07, 0x0E, 0x09]), (0, 1));
+    assert_eq!(blamed(&loose(), &[0xF1, 0x0E, 0x09]), (0b001, 2));
+    assert_eq!(blamed(&loose(), &[0x07, 0xFF, 0x09]), (0b010, 3));
+    assert_eq!(blamed(&loose(), &[0x07, 0x0E, 0x08]), (0b100, 4));
+    // F1 and FF agree with each other.
+    assert_eq!(blamed(&loose(), &[0xF1, 0xFF, 0x09]), (0b100, 4));
+    assert_eq!(blamed(&loose(), &[0xF1, 0xFE, 0x09]), (0b011, 5));
 }
 
 fn moved(a: &Arrangement, record: &[u8], given: &Move) -> [u8; 3] {

@@ -8,7 +8,7 @@ use reference::{check, difference, reading, view, Arrangement, Shape};
 
 /// The number of a set-up with no bytes: 6 or 0 mean that 1 to 5 were passed.
 fn number(k: u64, r: u64, w: u64, n: u64, b: u64) -> u64 {
-    check(&Arrangement::new(k, r, w, n, b), &[]).0
+    check(&Arrangement::new(k, r, w, n, b), &[], 1).0
 }
 
 #[test]
@@ -161,7 +161,9 @@ fn view_asks_ten_last() {
         assert_eq!(view(&a, &record, trap), (10, &[][..]));
     }
     assert_eq!(view(&a, &record[1..], 0), (6, &[][..]));
-    assert_eq!(check(&a, &record[1..]), (6, None));
+    for budget in [0, 1, u64::MAX] {
+        assert_eq!(check(&a, &record[1..], budget), (6, None));
+    }
 }
 
 /// The number of a rearrangement from (2,4,3,5), with buffers of these sizes.

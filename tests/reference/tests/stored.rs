@@ -38,6 +38,9 @@ fn calls() {
     let columns = include_str!("../../vectors/2026-05-calls.txt");
     assert!(columns.lines().all(|line| line.contains(" column=")));
     assert_eq!(try_all(columns, &Reference), Ok(400));
+    let blames = include_str!("../../vectors/2026-06-calls.txt");
+    assert!(blames.lines().all(|line| line.contains(" budget=")));
+    assert_eq!(try_all(blames, &Reference), Ok(400));
 }
 
 #[test]

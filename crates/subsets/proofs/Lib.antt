@@ -1,0 +1,3 @@
+pub mod Order
+mod Numbers
+pub mod Successor
