@@ -18,6 +18,7 @@ static int are(const uint32_t serials[3], uint32_t first, uint32_t second, uint3
 
 int main(void) {
     const size_t k = 1, r = 2, w = 2, n = 3, b = 1;
+    /* The slack is a fixed one, for the figures: it hides nothing. */
     const uint8_t message[] = {0x07}, slack[] = {0x01}, change[] = {0x05};
     uint8_t card[3], read[1], added[2];
     uint32_t serials[3], answer;

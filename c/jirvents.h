@@ -4,7 +4,9 @@
  * A code has k message parts, r nodes to read, w nodes to write and n nodes, with r + w at least k + n, and b bytes in a block. A message is k parts of b bytes,
  * a slack n - w parts (any bytes), a codeword n blocks, that of node 1 first. A node set is a number of 32 bits in which node i is worth 2^(i-1). Message and
  * slack together have q = k + n - w parts, at most r: of the r nodes that a function is given to read it uses the blocks of the q lowest, whatever blocks the
- * others hold.
+ * others hold. After an encode, and any updates and repairs with no damage, whoever steals n - w nodes or fewer learns nothing of the message from their blocks, if
+ * each byte of the slack was drawn anew for each encode, all 256 values equally likely whatever the other bytes are, from a source that nobody can predict, and is
+ * kept secret. Where w = n there is no slack, and one node tells something (README, "If nodes are stolen").
  *
  * Each node has a serial, kept beside the codeword as n numbers, that of node 1 first, which are 0 after an encode. A change goes out under a serial of its own,
  * 1 or more and above those of all changes before it, and to those of its w nodes that can be reached. A node adds its part only if that serial is above its

@@ -15,6 +15,13 @@
 //! [`QUESTIONS`], and is refused by the first that is answered no. A refused call
 //! writes nothing.
 //!
+//! After an [`encode`], and any [`update`]s and [`repair`]s with no damage,
+//! whoever steals n - w nodes or fewer learns nothing of the message from their
+//! blocks, if each byte of the slack was drawn anew for each [`encode`], all 256
+//! values equally likely whatever the other bytes are, from a source that nobody
+//! can predict, and is kept secret. Where w = n there is no slack, and one node
+//! tells something (README, "If nodes are stolen").
+//!
 //! Each node has a **serial**, kept beside the codeword: n numbers, that of node
 //! 1 first, 0 after [`encode`]. A change goes out under a serial of its own, 1 or
 //! more and above those of all changes before it, and to those of its w nodes
@@ -34,6 +41,7 @@
 //!
 //! let p = Params { k: 1, r: 2, w: 2, n: 3, b: 1 };
 //! let (mut codeword, mut serials) = ([0; 3], [0; 3]);
+//! // A fixed slack, for the figures: it hides nothing.
 //! encode(p, &[0x07], &[0x01], &mut codeword, &mut serials)?;
 //! assert_eq!(codeword, [0x06, 0x0A, 0x0C]);
 //!

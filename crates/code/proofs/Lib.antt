@@ -8,3 +8,4 @@ pub mod Sends
 pub mod Used
 pub mod Serving
 pub mod Blaming
+pub mod Added

@@ -7,15 +7,16 @@ use Prim.Native.Nat.{ℕ, suc, _+_, _^_, _<_}
 use native.Mathlib.Omega.{arith}
 use lib.ListN.{length}
 use Rattle.base.specs.Seq.{cell}
+use Rattle.field.specs.Field.{Bytes}
 use Rattle.params.specs.Nodes.{has, size, within}
 use Rattle.params.specs.Params.{slackParts, working, reshaped}
 use Rattle.gates.specs.Valid.{Valid}
 use Rattle.params.specs.declared.Params.{Params}
 use Rattle.params.specs.declared.Shape.{Shape}
 use Rattle.params.proofs.Lowest.{lowest-all}
-use Rattle.gates.proofs.Valid.{decode-accepted}
+use Rattle.gates.proofs.Valid.{encode-accepted, decode-accepted}
 use Rattle.code.specs.Code.{block, Pair, Gives, used}
-use Rattle.code.specs.Calls.{Encoded, Decoded, DecodePost, Repaired, writes, Reconfigured}
+use Rattle.code.specs.Calls.{Encoded, EncodePost, Decoded, DecodePost, Repaired, writes, Reconfigured}
 use Rattle.code.proofs.Pairs.{from-reads, pair-unique, pair-blocks}
 use Rattle.code.proofs.Determined.{new-slack}
 
@@ -26,6 +27,12 @@ SameAt a from left codeword = (j p : ℕ) → j < a .n → used a from (suc j) �
 pub gives-same : (a : Params) (from : ℕ) {x v left codeword : List ℕ} → SameAt a from left codeword → Gives a x v (used a from) codeword
     → Gives a x v (used a from) left
 gives-same a from same g = record { pair = g .pair; equal = λ j p hj s hp. g .equal j p hj s hp ∙ sym (same j p hj s hp) }
+
+-- Message and slack of an accepted set-up are a pair of the code.
+pub encode-pair : {a : Params} {x v buffer numbers codeword serials : List ℕ} → Bytes x → Bytes v → EncodePost a x v buffer numbers 0 codeword serials → Pair a x v
+encode-pair {a = a} hx hv post =
+    let g = encode-accepted a _ _ _ _ .0 (sym (post .number)) in
+    record { message = record { length-is = g .message-length; bytes = hx }; slack = record { length-is = g .slack-length; bytes = hv } }
 
 module _ (a : Params) (ok : Valid a) (from : ℕ) (hw : within (a .n) from ≡ true) (hs : size from ≡ a .r) where
   -- A decode gives the message of whichever pair gives the blocks of R's q lowest nodes; ..

@@ -63,7 +63,7 @@ abbrev pub same? : ℕ → ℕ → (ℕ → Bool) → (ℕ → ℕ → ℕ) → 
 same? n b S f g = allBelow n (λ j. allBelow b (λ p. implies (S (suc j)) (eqb (f j p) (g j p))))
 
 module _ (n b : ℕ) (S : ℕ → Bool) (f g : ℕ → ℕ → ℕ) where
-  same : T (same? n b S f g) → (j p : ℕ) → j < n → S (suc j) ≡ true → p < b → f j p ≡ g j p
+  pub same : T (same? n b S f g) → (j p : ℕ) → j < n → S (suc j) ≡ true → p < b → f j p ≡ g j p
   same t j p hj s hp =
       eqb→eq _ _
       (subst (λ (c : Bool). T (implies c (eqb (f j p) (g j p)))) s

@@ -1,8 +1,8 @@
--- The customer's three demands, and the law of the broken send, on one page. Demands 1 and 2 are the contracts of the calls (src/ of the crates views, encoding,
--- decoding, updates, maintenance, checking, reconfiguration and matrix): each is proved to meet the post-condition named here, for all arguments (view_status
--- answers viewGate). This page says what such a post-condition settles, and states demand 3 and that law. Assumes nothing.
+-- The customer's three demands, the law of the broken send, and what stolen nodes tell, on one page. Demands 1 and 2 are the contracts of the calls (src/ of the
+-- crates views, encoding, decoding, updates, maintenance, checking, reconfiguration and matrix): each is proved to meet the post-condition named here, for all
+-- arguments (view_status answers viewGate). This page says what such a post-condition settles, and states demand 3, that law, and what stolen nodes tell. Assumes nothing.
 use mathlib.Core.Path.{_≡_, refl, sym}
-use mathlib.Core.List.{List, [], _∷_}
+use mathlib.Core.List.{List, [], _∷_, _++_}
 use mathlib.Core.Logic.{_↔_}
 use mathlib.Core.Bool.{Bool, true, false, not, _||_}
 use Prim.Native.Nat.{ℕ, suc, _+_, _-_, _≤_, _<_}
@@ -23,19 +23,22 @@ use Rattle.code.specs.declared.Blame.{Blame}
 use Rattle.code.specs.declared.Verdict.{Verdict}
 use Rattle.code.specs.declared.Verdict.the-variants.{Blamed}
 use Rattle.subsets.specs.Order.{earlier}
-use Rattle.code.specs.Code.{Gives, used}
-use Rattle.serials.specs.Serials.{Stamped}
+use Rattle.code.specs.Code.{Parts, Gives, used}
+use Rattle.serials.specs.Serials.{Words32, Stamped}
 use Rattle.code.specs.Calls.{Post, Unwritten, EncodePost, DecodePost, DeltaPost, Updated, UpdatePost, RepairPost, ReconfigurePost, Serves, CheckPost, ViewPost, number}
 use Rattle.gates.proofs.Valid.{encode-accepted, decode-accepted, check-accepted}
 use Rattle.code.proofs.Determined.{Met, Once, BothMet, BothOnce, encode-met, encode-once, decode-met, decode-once, delta-met, delta-once, update-met, update-once, repair-met}
 use Rattle.code.proofs.Determined.{repair-once, reconfigure-met, reconfigure-once, view-met, view-once}
 use Rattle.code.proofs.Blaming.{check-met, check-once, check-number, blame-inside, blame-serves, blame-size, blame-exact, blame-seen, blame-none}
 use Rattle.code.proofs.Serving.{Same}
-use Rattle.code.proofs.Theorems.{SameAt, decode-encode, gives-same}
+use Rattle.code.proofs.Theorems.{SameAt, encode-pair, decode-encode, gives-same}
 use Rattle.code.specs.Sends.{Sendings, reachedBy, Covers}
 use Rattle.code.proofs.Sends.{send-accepted, resend, resend-whole}
-use Rattle.ledger.specs.Ledger.{Held, Machine, Event, History, Reading}
+use Rattle.ledger.specs.Ledger.{Held, begun, withRecord, Machine, update, repair, Event, call, inForce, Typed, History, Reading}
+use Rattle.ledger.specs.Stolen.{Upkeep, UpkeepAfter, EndsAlike, ExactlyOne}
 use Rattle.ledger.proofs.Demand3 as D3
+use Rattle.ledger.proofs.Upkeep as U
+use Rattle.ledger.proofs.Stolen as S
 
 -- 1. "Where it can't be served it returns the number of the first question in document 01 whose answer is no, and no byte is written." The answer is the
 -- gate's number, the first no of the call's list of questions (gates/specs/Gates.antt), and a refused call's buffers are as they were: bytes, and serials where
@@ -189,9 +192,7 @@ pub demand-2-back : (a : Params) (message slack old numbers codeword serials lef
 demand-2-back a message slack old numbers codeword serials left buffer out from hm hs set-up same reading =
     let e = encode-accepted a _ _ _ _ .0 (sym (set-up .number)) in
     let d = decode-accepted a _ _ from .0 (sym (reading .number)) in
-    decode-encode a (e .valid) from (d .from-within) (d .from-size) message slack codeword out
-    (record { message = record { length-is = e .message-length; bytes = hm }; slack = record { length-is = e .slack-length; bytes = hs } })
-    (set-up .served refl .0)
+    decode-encode a (e .valid) from (d .from-within) (d .from-size) message slack codeword out (encode-pair hm hs set-up) (set-up .served refl .0)
     (record { slack = reading .served refl .slack; gives = gives-same a from (λ j p hj s hp. sym (same j p hj s hp)) (reading .served refl .gives) })
 
 -- 3. For every list of History: it opens with an accepted set-up; each accepted change is a send of the change that its serial had before, or begins one, under a
@@ -242,3 +243,60 @@ pub broken-send-whole : {a : Params} {d old serials mid serials₁ new serials�
     (reached : ℕ) → Covers (λ i. reachedBy sends i || has reached i) to → ((j : ℕ) → j < a .n → has to (suc j) ≡ true → getD serials j 0 < serial)
     → UpdatePost a d to serial reached mid serials₁ 0 new serials₂ → Updated a old d to (has to) new × Stamped (a .n) (has to) serial serials serials₂
 broken-send-whole = resend-whole
+
+-- "A grower's neighbour may walk off with n − w traps. For every choice of n − w traps, every two messages under one arrangement, and every list of accepted changes
+-- and rebuilds used after both set-ups, with no damage: each slack of the first message has exactly one slack of the second for which those traps end with equal
+-- bytes. It covers loose arrangements too" (document 02, 2026-07). So with a slack drawn evenly what these nodes end with is as likely after the one message as after
+-- the other, and tells nothing of it, to one who knows the list and its changes too.
+pub stolen : {a : Params} {message slack : List ℕ} {events : List Event} {h : Held} → UpkeepAfter a message slack events h → (message′ : List ℕ)
+    → Parts (a .b) (a .k) message′ → (nodes : ℕ) → within (a .n) nodes ≡ true → size nodes ≡ a .n - a .w
+    → ExactlyOne (EndsAlike a events nodes (h .codeword) message′)
+stolen y message′ parts nodes inside many = S.stolen-one y message′ parts nodes (record { inside = inside; many = many })
+
+-- "every list of accepted changes and rebuilds": an accepted set-up begins one (UpkeepAfter), ..
+pub stolen-begins : {a : Params} {message slack buffer numbers codeword serials : List ℕ} → Bytes message → Bytes slack → Bytes buffer → Words32 numbers
+    → EncodePost a message slack buffer numbers 0 codeword serials → UpkeepAfter a message slack [] (begun a codeword serials)
+stolen-begins = U.begins
+
+-- .. and each change and each rebuild that is accepted on what is then held may come next, whatever its serial, the nodes that it reaches, and what came before.
+pub stolen-change : {a : Params} {message slack : List ℕ} {events : List Event} {h : Held} → UpkeepAfter a message slack events h → {new serials : List ℕ}
+    → (d : List ℕ) (to serial reached : ℕ) → Typed (call (inForce h) (update d to serial reached))
+    → UpdatePost (h .params) d to serial reached (h .codeword) (h .serials) 0 new serials
+    → UpkeepAfter a message slack (events ++ call (inForce h) (update d to serial reached) ∷ []) (withRecord new serials h)
+stolen-change = U.change-next
+
+pub stolen-rebuild : {a : Params} {message slack : List ℕ} {events : List Event} {h : Held} → UpkeepAfter a message slack events h → {new serials : List ℕ}
+    → (from lost : ℕ) → Typed (call (inForce h) (repair from lost)) → RepairPost (h .params) from lost (h .codeword) (h .serials) 0 new serials
+    → UpkeepAfter a message slack (events ++ call (inForce h) (repair from lost) ∷ []) (withRecord new serials h)
+stolen-rebuild = U.rebuild-next
+
+-- "used after both set-ups": after every other accepted set-up under these parameters, with whichever message, slack and buffers, the list is accepted too, and the
+-- serials, which are kept beside the record, end the same.
+pub stolen-accepted : {a : Params} {message slack : List ℕ} {events : List Event} {h : Held} → UpkeepAfter a message slack events h
+    → (message′ slack′ buffer numbers codeword serials : List ℕ) → Bytes message′ → Bytes slack′ → Bytes buffer → Words32 numbers
+    → EncodePost a message′ slack′ buffer numbers 0 codeword serials
+    → (h′ : Held) × Upkeep (begun a codeword serials) events h′ × (h′ .serials ≡ h .serials)
+stolen-accepted = S.upkeep-too
+
+-- What a set-up and a list leave is settled by message, slack and list: no "there is" above leaves a choice.
+pub stolen-settled : {a : Params} {message slack : List ℕ} {events : List Event} {h h′ : Held} → UpkeepAfter a message slack events h
+    → UpkeepAfter a message slack events h′ → h ≡ h′
+stolen-settled = U.after-once
+
+-- Fewer nodes are some of n − w, and tell no more. That each message has a slack for which they end with equal bytes:
+pub stolen-fewer : {a : Params} {message slack : List ℕ} {events : List Event} {h : Held} → UpkeepAfter a message slack events h → (message′ : List ℕ)
+    → Parts (a .b) (a .k) message′ → (nodes : ℕ) → within (a .n) nodes ≡ true → size nodes ≤ a .n - a .w
+    → (slack′ : List ℕ) × EndsAlike a events nodes (h .codeword) message′ slack′
+stolen-fewer = S.fewer-some
+
+-- More nodes tell something, one more already: some message has no slack for which they end with equal bytes. ..
+pub stolen-more : {a : Params} {message slack : List ℕ} {events : List Event} {h : Held} → UpkeepAfter a message slack events h → (nodes : ℕ)
+    → within (a .n) nodes ≡ true → a .n - a .w < size nodes
+    → (message′ : List ℕ) × Parts (a .b) (a .k) message′ × ((slack′ : List ℕ) → EndsAlike a events nodes (h .codeword) message′ slack′ → ⊥)
+stolen-more = S.more-none
+
+-- .. And n − w + k nodes or more, the working number, tell message and slack of the set-up to one who knows the list; with k = 1 that is one node more.
+pub stolen-all : {a : Params} {message slack : List ℕ} {events : List Event} {h : Held} → UpkeepAfter a message slack events h → (nodes : ℕ)
+    → within (a .n) nodes ≡ true → working a ≤ size nodes → (message′ slack′ : List ℕ) → EndsAlike a events nodes (h .codeword) message′ slack′
+    → (message′ ≡ message) × (slack′ ≡ slack)
+stolen-all = S.working-all

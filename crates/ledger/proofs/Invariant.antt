@@ -2,23 +2,21 @@
 -- sound once the open change, if there is one, is sent to all of its W (Finishing.antt). Each accepted event keeps it, a refused one alters nothing, and so every
 -- list keeps it. Assumes nothing.
 use mathlib.Core.Path.{_≡_, refl, sym, ap, ap₂, _∙_, subst}
-use mathlib.Core.Logic.{⊎-elim}
 use mathlib.Core.Bool.{Bool, true, false, true≢false, cond}
 use mathlib.Core.List.{List}
-use Prim.Native.Nat.{ℕ, zero, suc, _<_}
+use Prim.Native.Nat.{ℕ, zero, suc}
 use native.Mathlib.Omega.{arith}
-use lib.ListN.{length, getD, replicate, length-replicate}
-use Rattle.base.proofs.Cases.{lt-or}
+use lib.ListN.{length, getD, length-replicate}
 use Rattle.base.proofs.Seq.{zeros-at}
 use Rattle.field.specs.Field.{Bytes, plus}
-use Rattle.params.specs.Nodes.{has}
 use Rattle.gates.specs.Valid.{Valid, UpdateAccepted}
 use Rattle.params.specs.declared.Params.{Params}
 use Rattle.params.specs.declared.Shape.{Shape}
 use Rattle.gates.proofs.Valid.{encode-accepted, update-accepted, repair-accepted, reconfigure-accepted}
 use Rattle.code.specs.Calls.{EncodePost, Sent}
 use Rattle.code.proofs.Pairs.{from-reads}
-use Rattle.ledger.specs.Ledger.{Held, begun, withRecord, Sends, sending, Machine, opened, Lent, held, other, Given, Call, encode, update, repair}
+use Rattle.code.proofs.Theorems.{encode-pair}
+use Rattle.ledger.specs.Ledger.{Held, begun, withRecord, sending, Machine, opened, Lent, held, other, Given, Call, encode, update, repair}
 use Rattle.ledger.specs.Ledger.{reconfigure, decode, delta, check, view, Event, call, damage, inForce, InForce, bytesLent, bytesLeft, lent, serialsLent}
 use Rattle.ledger.specs.Ledger.{wrote, moved, damagedHeld, Step, encoded, updated, repaired, reconfigured, decoded, differed, checked, viewed, damaged}
 use Rattle.ledger.specs.Ledger.{effect, stepped, Closed, Sendable, Readable, Allowed, Typed, Run, done, more, History}
@@ -54,9 +52,7 @@ opening-agrees a x v buffer numbers codeword serials hx hv post =
           stamps-begun a serials (ap length (s .1) ∙ length-replicate {A = ℕ} (a .n) 0) (λ j. ap (λ (l : List ℕ). getD l j 0) (s .1) ∙ zeros-at (a .n) j);
       finished =
           whole (λ t e. absurd (true≢false (sym e)))
-          (encode-sound a x v codeword
-          (record { message = record { length-is = g .message-length; bytes = hx }; slack = record { length-is = g .slack-length; bytes = hv } })
-          (s .0));
+          (encode-sound a x v codeword (encode-pair hx hv post) (s .0));
     }
 
 -- ---- accepted events
@@ -69,7 +65,7 @@ Keeps h m e = (h′ : Held) → Step h e 0 h′ → Agrees h′ (effect m e)
 pub given-in-force : (h : Held) → InForce h (inForce h)
 given-in-force h = record { params = refl; codeword = refl; serials = refl }
 
-given-is : (h : Held) (g : Given) → InForce h g → g ≡ inForce h
+pub given-is : (h : Held) (g : Given) → InForce h g → g ≡ inForce h
 given-is h g i =
     ap₂ (λ (a : Params) (l : Lent × Lent). record { params = a; codeword = l .0; serials = l .1 }) (i .params)
     (ap₂ (λ (l l′ : Lent). (l, l′)) (i .codeword) (i .serials))

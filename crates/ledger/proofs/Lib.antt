@@ -9,3 +9,6 @@ pub mod Computed
 pub mod Figures
 pub mod Example
 pub mod OneNode
+pub mod Upkeep
+pub mod Stolen
+pub mod StolenExample

@@ -7,7 +7,6 @@ use mathlib.Core.List.{List}
 use Prim.Native.Nat.{ℕ, zero, suc, _*_, _/_, _%_, _^_, _<_}
 use native.Mathlib.Nat.{div-add-mod', div-lt-iff-lt-mul, mod-lt}
 use native.Mathlib.Omega.{arith}
-use lib.Dec.{eqb}
 use lib.ListN.{length, getD, length-replicate, List·getD-eq-default}
 use Rattle.base.specs.Seq.{cell}
 use Rattle.base.proofs.Cases.{lt-or, eq-or}
@@ -28,7 +27,7 @@ use Rattle.code.specs.Calls.{Post, Unwritten, EncodePost, DecodePost, UpdatePos
 use Rattle.code.proofs.Additivity.{block-byte}
 use Rattle.code.proofs.Determined.{encode-met, encode-once, decode-met, delta-met, update-met, update-once, repair-met, repair-once, reconfigure-met, reconfigure-once, view-met}
 use Rattle.code.proofs.Blaming.{check-met, check-number}
-use Rattle.ledger.specs.Ledger.{Held, Machine, Lent, held, other, Given, encode, update, repair, reconfigure, decode, delta, check, view}
+use Rattle.ledger.specs.Ledger.{Held, begun, Machine, Lent, held, other, Given, encode, update, repair, reconfigure, decode, delta, check, view}
 use Rattle.ledger.specs.Ledger.{Event, call, damage, bytesLent, bytesLeft, lent, serialsLent, wrote, moved, damagedWord, damagedHeld}
 use Rattle.ledger.specs.Ledger.{Step, encoded, updated, repaired, reconfigured, decoded, differed, checked, viewed, damaged}
 use Rattle.ledger.specs.Ledger.{LentAs, GivenTyped, Typed, Run, done, more, History, Readable, Reading}
@@ -219,21 +218,25 @@ run-whole : {h h′ : Held} {m m′ : Machine} {events : List Event} → Whole h
 run-whole w done = w
 run-whole w (more {h = h} {e = e} ty al st rest) = run-whole (step-whole h e w ty st) rest
 
--- Every list leaves a whole state.
-pub history-whole : {events : List Event} {h : Held} {m : Machine} → History events h m → Whole h
-history-whole y =
-    let g = encode-accepted (y .params) _ _ _ _ .0 (sym (y .opening .number)) in
-    let k =
-    encode-kept (y .params) (y .message) (y .slack) (y .buffer) (y .numbers) 0 (y .codeword) (y .serials) (y .typed .2) (y .typed .3) (y .opening) in
-    run-whole
-    (record {
+-- An accepted set-up leaves a whole state, ..
+pub opening-whole : (a : Params) (x v buffer numbers codeword serials : List ℕ) → Bytes buffer → Words32 numbers
+    → EncodePost a x v buffer numbers 0 codeword serials → Whole (begun a codeword serials)
+opening-whole a x v buffer numbers codeword serials hb hn post =
+    let g = encode-accepted a _ _ _ _ .0 (sym (post .number)) in
+    let k = encode-kept a x v buffer numbers 0 codeword serials hb hn post in
+    record {
       valid = g .valid;
       length-is = k .0 .0 ∙ g .codeword-length;
       bytes = k .0 .1;
       serials-length = k .1 .0 ∙ g .serials-length;
       words = k .1 .1;
-    })
-    (y .run)
+    }
+
+-- .. and so does every list.
+pub history-whole : {events : List Event} {h : Held} {m : Machine} → History events h m → Whole h
+history-whole y =
+    run-whole
+    (opening-whole (y .params) (y .message) (y .slack) (y .buffer) (y .numbers) (y .codeword) (y .serials) (y .typed .2) (y .typed .3) (y .opening)) (y .run)
 
 -- ---- from a whole state each event has a step, and only one
 

@@ -18,6 +18,7 @@ pub mod matrix;
 pub mod pair;
 pub mod polynomial;
 pub mod season;
+pub mod stolen;
 pub mod vectors;
 
 pub use blame::Blame;

@@ -21,11 +21,19 @@ struct Begun {
 
 /// How often things came up.
 #[derive(Default)]
-struct Counts(BTreeMap<&'static str, usize>);
+pub(crate) struct Counts(pub(crate) BTreeMap<&'static str, usize>);
 
 impl Counts {
-    fn note(&mut self, what: &'static str, came_up: bool) {
+    pub(crate) fn note(&mut self, what: &'static str, came_up: bool) {
         *self.0.entry(what).or_default() += usize::from(came_up);
+    }
+
+    /// There are so many of them, and each came up at least so often.
+    pub(crate) fn test(self, things: usize, least: usize) {
+        assert_eq!(self.0.len(), things);
+        for (what, count) in self.0 {
+            assert!(count >= least, "{what}: {count}");
+        }
     }
 }
 
@@ -271,8 +279,5 @@ pub fn test(calls: &dyn Calls, seed: u64) {
         }
         list.close(&mut counts);
     }
-    assert_eq!(counts.0.len(), 11);
-    for (what, count) in counts.0 {
-        assert!(count > 1000, "{what}: {count}");
-    }
+    counts.test(11, 1001);
 }
