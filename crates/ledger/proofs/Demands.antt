@@ -246,8 +246,8 @@ broken-send-whole = resend-whole
 
 -- "A grower's neighbour may walk off with n − w traps. For every choice of n − w traps, every two messages under one arrangement, and every list of accepted changes
 -- and rebuilds used after both set-ups, with no damage: each slack of the first message has exactly one slack of the second for which those traps end with equal
--- bytes. It covers loose arrangements too" (document 02, 2026-07). So with a slack drawn evenly what these nodes end with is as likely after the one message as after
--- the other, and tells nothing of it, to one who knows the list and its changes too.
+-- bytes. It covers loose arrangements too" (document 02, 2026-07). So where all slacks are equally likely, what these nodes end with is as likely after the one message
+-- as after the other, and tells nothing of it, to one who knows the list and its changes too.
 pub stolen : {a : Params} {message slack : List ℕ} {events : List Event} {h : Held} → UpkeepAfter a message slack events h → (message′ : List ℕ)
     → Parts (a .b) (a .k) message′ → (nodes : ℕ) → within (a .n) nodes ≡ true → size nodes ≡ a .n - a .w
     → ExactlyOne (EndsAlike a events nodes (h .codeword) message′)
