@@ -1,4 +1,6 @@
 // What the crates above share: definitions and lemmas (questions at the gate, lists by their entries, computed tests), and functions on numbers.
+#![tactic(auto)]
+
 ghost use Rattle.std.specs.Prelude.{◌≡◌, true, ◌*◌, ◌^◌, ◌≤◌, ◌<◌, eqb};
 
 // Whether length = count · size, for numbers of any size. That of small numbers is formed; that of large ones might overflow, so length is divided.

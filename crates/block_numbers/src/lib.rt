@@ -1,4 +1,6 @@
 // Block numbers: the block of node i is block i - 1 of a record.
+#![tactic(auto)]
+
 ghost use Rattle.std.specs.Prelude.{◌≡◌};
 ghost use Rattle.params.specs.Nodes.{in_order, Placing};
 

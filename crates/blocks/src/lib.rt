@@ -1,4 +1,6 @@
 // Adding, copying, clearing and comparing blocks, each with one narrow contract for slices of any lengths.
+#![tactic(auto)]
+
 ghost use Rattle.std.specs.Prelude.{◌≡◌, length, replicate};
 ghost use Rattle.field.specs.Field.{plus};
 ghost use Rattle.blocks.specs.Bytes.{over, Compared};

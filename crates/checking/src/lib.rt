@@ -1,5 +1,7 @@
 // Check (document 02, request 2026-06): the smallest set of nodes without which one pair gives all other blocks, sought within a budget. It is its gate, and then a
 // private core, which knows of no gate.
+#![tactic(auto)]
+
 mod searching;
 
 ghost use Rattle.code.specs.Calls.{CheckPost};

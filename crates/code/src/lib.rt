@@ -1,5 +1,7 @@
 // The Read-Write code as document 01 fixes it: what blocks, pairs and calls mean (specs/), and the theorems about them (proofs/). The only code here is
 // the point rule, the list of a set's points, and the type of an answer that the statements name.
+#![tactic(auto)]
+
 ghost use Rattle.std.specs.Prelude.{◌≡◌};
 ghost use Rattle.code.specs.Code.{point};
 ghost use Rattle.code.specs.Points.{Pointing};
@@ -29,7 +31,7 @@ pub fn points_of(set: NodeSet, out: &mut [u8]) -> usize
 }
 
 // What an accepted `check` gives.
-#[derive(Drop)]
+#[derive(Clone, Copy)]
 pub struct Blame {
     // nodes without which one pair gives all other blocks
     pub set: NodeSet,
@@ -40,7 +42,7 @@ pub struct Blame {
 }
 
 // What `check` answers: a refused one its number alone.
-#[derive(Drop)]
+#[derive(Clone, Copy)]
 pub enum Verdict {
     // The first question whose answer is no.
     Refused(u32),

@@ -1,6 +1,8 @@
 // Small matrices of coefficients, found once for each call and then applied to blocks: powers of points, and what takes values at some points to
 // coefficients (module reading) or to values at others (module completing). Both are written down by Lagrange's basis polynomials, the one by their
 // coefficients, the other by their values. A polynomial has no constant term here: its coefficients belong to the powers from 1 on.
+#![tactic(auto)]
+
 mod completing;
 mod distances;
 mod logarithms;

@@ -1,5 +1,7 @@
 // Whether one pair gives the blocks of all nodes outside a set: that of the q lowest of them, q the working number, is compared with the others. Each function holds
 // for slices of any lengths.
+#![tactic(auto)]
+
 ghost use Rattle.std.specs.Prelude.{◌≤◌, length};
 ghost use Rattle.consistency.specs.Tested.{Testable, Tested};
 

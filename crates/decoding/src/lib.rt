@@ -1,5 +1,7 @@
 // Document 01's reading: from the blocks of some nodes back to the message. The call is its gate, and then a private core: a small matrix of coefficients is found
 // once and applied to the blocks by one product.
+#![tactic(auto)]
+
 ghost use Rattle.std.specs.Prelude.{◌*◌, ◌≤◌, length};
 ghost use Rattle.params.specs.Nodes.{size};
 ghost use Rattle.code.specs.Calls.{DecodePost};

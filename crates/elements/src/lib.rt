@@ -1,4 +1,6 @@
 // The elements of the field as a type: sum, product, inverse and power (document 01, "The field"). Products and inverses go by the tables.
+#![tactic(auto)]
+
 ghost use Rattle.std.specs.Prelude.{◌≡◌, ◌<◌};
 ghost use Rattle.field.specs.Field.{add, mul, pow, Inverse};
 
@@ -6,7 +8,7 @@ use base::wide;
 use tables::{logs, powers};
 
 // A field element. Document 01 calls it a field value.
-#[derive(Drop)]
+#[derive(Clone, Copy)]
 pub struct Elem(pub u8);
 
 impl Elem {

@@ -1,5 +1,7 @@
 // Document 01's set_up: from message and slack to the blocks of all nodes, with serials 0. The call is its gate, and then a private core: message and slack are
 // laid side by side, so that one product by the powers of the nodes' points gives all blocks.
+#![tactic(auto)]
+
 ghost use Rattle.std.specs.Prelude.{◌+◌, ◌*◌, ◌≤◌, length, take, drop};
 ghost use Rattle.params.specs.Params.{working};
 ghost use Rattle.code.specs.Calls.{EncodePost, Encoded};

@@ -1,5 +1,7 @@
 // Blocks from parts and blocks: at each byte place, the values of a polynomial at some nodes from its leading coefficients and its values at others. The rows of
 // coefficients are found once, for all blocks and byte places.
+#![tactic(auto)]
+
 ghost use Rattle.std.specs.Prelude.{◌+◌, ◌*◌, ◌≤◌, length};
 ghost use Rattle.params.specs.Nodes.{size};
 ghost use Rattle.extension.specs.Blocks.{RecomputePost, CompletePost};

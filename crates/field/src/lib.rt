@@ -1,5 +1,7 @@
 // The field with 256 elements, its modulus z^8 + z^4 + z^3 + z^2 + 1 (document 01, "The field"): what sum, product, power and inverse are is defined in
 // specs/Field.antt, with no table, and their laws are in proofs/. The only code here is the product of bytes with no table.
+#![tactic(auto)]
+
 ghost use Rattle.std.specs.Prelude.{◌≡◌};
 ghost use Rattle.field.specs.Field.{mul};
 

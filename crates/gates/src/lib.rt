@@ -1,5 +1,7 @@
 // Document 01's questions at the gate, one function for each call: it gives the number of the first question whose answer is no, or 0. It sees numbers, sets and
 // lengths only.
+#![tactic(auto)]
+
 ghost use Rattle.std.specs.Prelude.{◌≡◌, ◌&&◌, [], ◌∷◌, ◌++◌, ◌*◌, ◌≤◌, eqb};
 ghost use Rattle.base.specs.Gate.{ask, first_no};
 ghost use Rattle.params.specs.Nodes.{size, within};

@@ -1,5 +1,7 @@
 // The library for C and Rust: each call on plain numbers and slices, under a name of its own. A slice is a pointer and a length there.
 // Answers are document 01's numbers.
+#![tactic(auto)]
+
 ghost use Rattle.code.specs.Calls.{EncodePost, DecodePost, DeltaPost, UpdatePost, RepairPost, ReconfigurePost};
 ghost use Rattle.jirvents.specs.Exports.{params, shape, CheckGave, ViewGave, InvertGave};
 

@@ -1,5 +1,7 @@
 // A matrix of coefficients times blocks: where the calls spend their time. The one exported function has a narrow contract, for slices of any lengths,
 // so that what stands behind it can be replaced by something faster.
+#![tactic(auto)]
+
 mod short;
 
 ghost use Rattle.std.specs.Prelude.{◌≡◌, true, ◌≤◌};

@@ -1,5 +1,7 @@
 // The inverse of a square matrix over the field (document 01, "The matrix inverse"), by elimination: row operations take [m | 1] to
 // [1 | inverse], column by column from the left.
+#![tactic(auto)]
+
 ghost use Rattle.std.specs.Prelude.{◌≡◌, ℕ, ◌+◌, ◌*◌, ◌<◌, length, get_or};
 ghost use Rattle.matrix.specs.Matrix.{entry};
 ghost use Rattle.matrix.specs.Invert.{InvertPost};
@@ -15,7 +17,7 @@ const NO_SIDE: u32 = 16;
 const NO_LENGTH: u32 = 6;
 
 // What `invert` answers. `number` and `column_number` in specs/Invert.antt give each case its number and value in document 01.
-#[derive(Drop)]
+#[derive(Clone, Copy)]
 pub enum Inversion {
     Inverted,
     // The matrix has no inverse. This column, counted from 1, is the first that is a sum of multiples of those before it; a column of 00 counts.
@@ -25,14 +27,14 @@ pub enum Inversion {
 }
 
 // The row of a pivot.
-#[derive(Drop)]
+#[derive(Clone, Copy)]
 enum Pivot {
     At(usize),
     Nothing,
 }
 
 // How an elimination ends.
-#[derive(Drop)]
+#[derive(Clone, Copy)]
 enum Elimination {
     Complete,
     // This column, counted from 0, has no pivot.

@@ -1,5 +1,7 @@
 // The small matrices of coefficients for nodes. Each function lists the points of its nodes, in rising order of the nodes (those of a set by `code::points_of`), and
 // hands the lists on to crate coefficients, which knows of points alone. No crate above turns a node into a point.
+#![tactic(auto)]
+
 ghost use Rattle.std.specs.Prelude.{◌≡◌, suc, ◌≤◌, length};
 ghost use Rattle.base.specs.Parts.{Filled};
 ghost use Rattle.code.specs.Code.{point};

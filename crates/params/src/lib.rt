@@ -1,11 +1,13 @@
 // Code parameters, nodes and node sets (document 01, "The arrangement and the record"). No field arithmetic.
+#![tactic(auto)]
+
 pub mod node_set;
 
 ghost use Rattle.std.specs.Prelude.{◌≡◌, ◌-◌, ◌^◌, min};
 ghost use Rattle.params.specs.Params.{slack_parts, working};
 
 // The parameters of a code but for the block size; document 01's k, r, w, n.
-#[derive(Drop)]
+#[derive(Clone, Copy)]
 pub struct Shape {
     // message parts
     pub k: usize,
@@ -18,7 +20,7 @@ pub struct Shape {
 }
 
 // Code parameters. Document 01 calls them an arrangement.
-#[derive(Drop)]
+#[derive(Clone, Copy)]
 pub struct Params {
     pub k: usize,
     pub r: usize,
@@ -29,11 +31,11 @@ pub struct Params {
 }
 
 // A storage node's number, from 1. Document 01 calls it a trap number.
-#[derive(Drop)]
+#[derive(Clone, Copy)]
 pub struct Node(pub u8);
 
 // A set of nodes, node i worth 2^(i-1). Document 01 calls it a choice of traps.
-#[derive(Drop)]
+#[derive(Clone, Copy)]
 pub struct NodeSet(pub u32);
 
 impl Params {

@@ -1,6 +1,8 @@
 // Picks: which entry of a group's table a row of a product adds at each bit. For one row, one group of columns and one of the eight bits, the pick is the number whose
 // binary digits are that bit of each of the group's coefficients. The eight picks of a row and group are found together, as the bytes of one word: each column doubles
 // the word and adds the bits of its coefficient, one to each byte.
+#![tactic(auto)]
+
 ghost use Rattle.std.specs.Prelude.{◌≡◌, ◌≤◌, length};
 ghost use Rattle.words.specs.Words.{word};
 ghost use Rattle.picks.specs.Picks.{bit, pick_of, Picks};

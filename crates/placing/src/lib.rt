@@ -1,4 +1,6 @@
 // The blocks of a set's nodes within a codeword: put, cleared, compared. Node i's block is block i - 1. Each function holds for slices of any lengths.
+#![tactic(auto)]
+
 ghost use Rattle.base.specs.Decided.{Decided};
 ghost use Rattle.placing.specs.Placed.{BlocksIn, PutPost, ClearPost, ComparePost};
 

@@ -1,4 +1,6 @@
 // Questions about lists of points.
+#![tactic(auto)]
+
 ghost use Rattle.std.specs.Prelude.{◌≤◌, length};
 ghost use Rattle.base.specs.Decided.{Decided};
 ghost use Rattle.interpolation.specs.Polynomial.{Points};

@@ -1,5 +1,7 @@
 // Probes: byte places at which some set has failed. Most sets that fail do so at one of these, so that it is known from a few bytes of each block. Each function
 // holds for slices of any lengths.
+#![tactic(auto)]
+
 ghost use Rattle.std.specs.Prelude.{◌≡◌, true, ◌*◌, length, take};
 ghost use Rattle.base.specs.Parts.{Filled};
 ghost use Rattle.code.specs.Calls.{Serves};
@@ -11,7 +13,7 @@ use consistency::{other_node, place_of};
 use params::{NodeSet, Params};
 
 // What trying a set tells.
-#[derive(Drop)]
+#[derive(Clone, Copy)]
 pub enum Outcome {
     Serves,
     // how many probes there are then

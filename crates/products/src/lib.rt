@@ -1,4 +1,6 @@
 // A matrix of coefficients times blocks: what it is, when it fits its slices, and the product added row by row.
+#![tactic(auto)]
+
 ghost use Rattle.std.specs.Prelude.{◌≡◌, ◌+◌, ◌≤◌, ◌<◌, length};
 ghost use Rattle.base.specs.Decided.{Decided};
 ghost use Rattle.products.specs.Blocks.{Rows, Inside, Fits, Added, plus_multiple, Accumulated};

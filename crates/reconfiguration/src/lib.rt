@@ -2,6 +2,8 @@
 // private core, which knows of no gate.
 //
 // Outside W' the new pair has the old pair's blocks. These and the new message settle it, and so every block that is written. The others are copied.
+#![tactic(auto)]
+
 ghost use Rattle.std.specs.Prelude.{◌*◌, ◌≤◌, length};
 ghost use Rattle.params.specs.Params.{slack_parts, reshaped};
 ghost use Rattle.code.specs.Calls.{ReconfigurePost};

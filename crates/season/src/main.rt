@@ -1,5 +1,7 @@
 // The season program of document 01: a season file on standard input, a line for each event on standard output. A read that fails counts as the end of the
 // input. After a write that fails the program stops and says so on standard error, since a program of this language has no exit status.
+#![tactic(auto)]
+
 ghost use Rattle.std.specs.Prelude.{◌≤◌, length};
 ghost use Rattle.season_run.specs.Season.{Room};
 ghost use Rattle.season.specs.Loop.{Printed};

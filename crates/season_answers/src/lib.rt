@@ -1,5 +1,7 @@
 // What a line tells of an event of a season file: the number of its kind, and the answer, which is the gate of its call on the lengths that a run lends. And how
 // long the record in force is. No field arithmetic.
+#![tactic(auto)]
+
 ghost use Rattle.std.specs.Prelude.{◌≡◌, ℕ};
 ghost use Rattle.season_file.specs.File.{kind_of};
 ghost use Rattle.season_file.specs.declared.Event.TheVariants.{Reconfigure};

@@ -1,5 +1,7 @@
 // What an event of a season file does to the record in force, which stands at the front of a buffer of 32,768 bytes, and to the serials in force, at the front of
 // one of 32 numbers: a call of the code, or damage.
+#![tactic(auto)]
+
 mod applying;
 
 ghost use Rattle.std.specs.Prelude.{length};
@@ -12,7 +14,7 @@ use season_answers::{answer, record_length};
 use season_file::{Event, Span};
 
 // What an event leaves.
-#[derive(Drop)]
+#[derive(Clone, Copy)]
 pub struct Effect {
     // the parameters in force
     pub params: Params,

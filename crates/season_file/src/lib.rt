@@ -1,5 +1,7 @@
 // The season file of document 01 ("The season program"), with damage as in document 02, 2026-04: what its bytes say. Blocks stay in the lent input: an event tells where they begin
 // and how many bytes they have.
+#![tactic(auto)]
+
 pub mod parsing;
 
 ghost use Rattle.std.specs.Prelude.{◌≡◌, ◌*◌};
@@ -8,28 +10,28 @@ ghost use Rattle.season_file.specs.Lengths.{capped};
 use params::{NodeSet, Params, Shape};
 
 // A stretch of the input.
-#[derive(Drop)]
+#[derive(Clone, Copy)]
 pub struct Span {
     pub at: usize,
     pub count: usize,
 }
 
 // Kind 1, document 01's change.
-#[derive(Drop)]
+#[derive(Clone, Copy)]
 pub struct UpdateFields {
     pub to: NodeSet,
     pub change: Span,
 }
 
 // Kind 2, rebuild.
-#[derive(Drop)]
+#[derive(Clone, Copy)]
 pub struct RepairFields {
     pub from: NodeSet,
     pub lost: NodeSet,
 }
 
 // Kind 3, damage.
-#[derive(Drop)]
+#[derive(Clone, Copy)]
 pub struct DamageFields {
     pub nodes: NodeSet,
     // a block for each of them, in rising order
@@ -37,13 +39,13 @@ pub struct DamageFields {
 }
 
 // Kind 4, reading.
-#[derive(Drop)]
+#[derive(Clone, Copy)]
 pub struct DecodeFields {
     pub from: NodeSet,
 }
 
 // Kind 5, rearrangement.
-#[derive(Drop)]
+#[derive(Clone, Copy)]
 pub struct ReconfigureFields {
     pub from: NodeSet,
     pub shape: Shape,
@@ -51,7 +53,7 @@ pub struct ReconfigureFields {
     pub message: Span,
 }
 
-#[derive(Drop)]
+#[derive(Clone, Copy)]
 pub enum Event {
     Update(UpdateFields),
     Repair(RepairFields),
@@ -61,28 +63,28 @@ pub enum Event {
 }
 
 // An event, and where the next one begins.
-#[derive(Drop)]
+#[derive(Clone, Copy)]
 pub struct Found {
     pub event: Event,
     pub next: usize,
 }
 
 // A file fault at an event: the event's kind (0 if unread) and the fault's number.
-#[derive(Drop)]
+#[derive(Clone, Copy)]
 pub struct Fault {
     pub kind: u8,
     pub number: u32,
 }
 
 // What stands at a place of the input where an event is to begin.
-#[derive(Drop)]
+#[derive(Clone, Copy)]
 pub enum Item {
     Faulty(Fault),
     Whole(Found),
 }
 
 // The first three sections and the count of events.
-#[derive(Drop)]
+#[derive(Clone, Copy)]
 pub struct Header {
     pub params: Params,
     pub message: Span,
@@ -93,7 +95,7 @@ pub struct Header {
 }
 
 // What the input begins with: a fault of event 0, or all that is read before the set_up is tried.
-#[derive(Drop)]
+#[derive(Clone, Copy)]
 pub enum Opening {
     Faulty(u32),
     Whole(Header),

@@ -1,5 +1,7 @@
 // The line that an event of a season file prints (document 01, "The season program"). Each private function that puts a text into the line takes where the
 // text begins and returns where it ends.
+#![tactic(auto)]
+
 ghost use Rattle.std.specs.Prelude.{◌≡◌, [], ◌∷◌, ◌+◌, ◌*◌, ◌≤◌, ◌<◌, length, drop};
 ghost use Rattle.season_lines.specs.Lines.{decimal, hex_digit, hex, message_field, line_of, LinePost};
 ghost use Rattle.season_lines.specs.Writing.{TextAt};

@@ -1,5 +1,7 @@
 // A season's run (document 01, "The season program"), one event at a time: the record in force stands in a buffer that the caller lends, and so do the serials and
 // the line that a turn prints.
+#![tactic(auto)]
+
 pub mod beginning;
 pub mod turning;
 
@@ -11,7 +13,7 @@ use params::Params;
 use season_lines::write_line;
 
 // Where a run stands between two events.
-#[derive(Drop)]
+#[derive(Clone, Copy)]
 pub struct State {
     // the parameters in force
     pub params: Params,
@@ -24,14 +26,14 @@ pub struct State {
 }
 
 // Whether the run goes on.
-#[derive(Drop)]
+#[derive(Clone, Copy)]
 pub enum Next {
     End,
     On(State),
 }
 
 // What a turn gives back: how many bytes of the line it wrote, and how the run goes on.
-#[derive(Drop)]
+#[derive(Clone, Copy)]
 pub struct Turn {
     pub written: usize,
     pub next: Next,

@@ -1,5 +1,7 @@
 // Serials (document 02, request 2026-03), a number of 32 bits for each node: which nodes take a change, and what serials they, rebuilt nodes and newly written ones
 // have then.
+#![tactic(auto)]
+
 ghost use Rattle.std.specs.Prelude.{◌≡◌, ◌&&◌, cond, ℕ, suc, ◌<◌, ◌%◌, max, leb, ltb, eqb, length, get_or, replicate};
 ghost use Rattle.base.specs.Seq.{one};
 ghost use Rattle.params.specs.Nodes.{has};

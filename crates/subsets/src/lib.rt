@@ -1,5 +1,7 @@
 // Node sets one after the other, by size and within a size by number (document 02, request 2026-06). The order stands here alone: `before` in specs/Order.antt says
 // it, and `next` goes through it.
+#![tactic(auto)]
+
 ghost use Rattle.std.specs.Prelude.{◌<◌};
 ghost use Rattle.subsets.specs.Order.{NextPost};
 ghost use Rattle.subsets.specs.Numbers.{Above};

@@ -1,4 +1,6 @@
 // The two constant tables of the field: the powers of 02 (document 01, "The field"), and the exponents that go with them.
+#![tactic(auto)]
+
 mod log_table;
 mod power_table;
 

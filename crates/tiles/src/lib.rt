@@ -1,4 +1,6 @@
 // What is done with a tile, some bytes of a block: 64, or 16 in the short product. And the definitions and laws that the products in tiles share.
+#![tactic(auto)]
+
 ghost use Rattle.std.specs.Prelude.{◌≡◌};
 ghost use Rattle.field.specs.Field.{plus};
 ghost use Rattle.tiles.specs.Tiling.{multiple};

@@ -1,5 +1,7 @@
 // Document 01's difference and change: what a change of the message adds to the blocks of the nodes that it writes, so that the others keep theirs. Each is its
 // gate, and then a private core: a small matrix of coefficients is found once, and one product adds what the change makes to the blocks that it goes to.
+#![tactic(auto)]
+
 ghost use Rattle.std.specs.Prelude.{◌*◌, ◌≤◌, length};
 ghost use Rattle.code.specs.Calls.{DeltaPost, UpdatePost};
 ghost use Rattle.updates.specs.Spreading.{Spread, Spreadable};

@@ -1,4 +1,6 @@
 // Document 01's view: one node's block as a part of the lent codeword, and the number that goes with it. No byte is written or computed with.
+#![tactic(auto)]
+
 ghost use Rattle.std.specs.Prelude.{◌≡◌, length};
 ghost use Rattle.gates.specs.Gates.{view_gate};
 ghost use Rattle.code.specs.Calls.{ViewPost};

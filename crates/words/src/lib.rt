@@ -1,4 +1,6 @@
 // Eight bytes as one word, and a block added to another a word at a time.
+#![tactic(auto)]
+
 ghost use Rattle.std.specs.Prelude.{◌≡◌, ◌<◌, length};
 ghost use Rattle.std.specs.Int.Bits.{bit_xor};
 ghost use Rattle.field.specs.Field.{plus};
