@@ -6,12 +6,10 @@ use mathlib.Core.Logic.{⊎_elim}
 use Prim.Native.Nat.{ℕ, ◌+◌, ◌*◌, ◌/◌, ◌%◌, ◌<◌}
 use native.Mathlib.Nat.{mul-zero, div-add-mod', mul-div_cancel, mul-mod_left}
 use native.Mathlib.Omega.{arith}
-use borrow.Author.Rules.{rules}
 use borrow.Author.Tests.{eq-eqb, ne_eqb}
 use lib.Dec.{eqb}
 use Rattle.base.proofs.Cases.{eq-or}
-use Rattle.base.proofs.is_product.Statement.{statement}
-use Rattle.base.proofs.is_product.Tie as tie
+use Rattle.base.proofs.is_product.Goals as goal
 
 empty : (l c s : ℕ) → s ≡ 0 → eqb l 0 ≡ eqb l (c * s)
 empty l c s e = ap (eqb l) (sym (ap (λ (k : ℕ). c * k) e ∙ mul-zero c))
@@ -28,29 +26,14 @@ rest l c s q =
     whole : c * s + l % s ≡ l
     whole = ap (λ (k : ℕ). k * s + l % s) (sym q) ∙ div-add-mod' l s
 
-small-requires : tie.Need-small-requires
-small-requires c κs = search rules
+pub overflow_mul-result : goal.overflow_mul-result
+overflow_mul-result c = omega (arith, c.small.ensures c.if-small.true)
 
-mul-result : tie.Need-overflow-mul-result
-mul-result c = omega (arith, c.before.small.ensures c.if1.true)
+pub returns-then-size-eq0 : goal.returns-then-size-eq0
+returns-then-size-eq0 c = empty _ _ _ c.if-size-eq0.true
 
-returns : tie.Need-returns
-returns c = search rules
+pub returns-then-length-size : goal.returns-then-length-size
+returns-then-length-size c = other _ _ _ (omega arith) c.if-length-size.true
 
-returns-2 : tie.Need-returns-2
-returns-2 c = empty _ _ _ c.if2.true
-
-div-if3 : tie.Need-nonzero-div-if3
-div-if3 c = search rules
-
-returns-3 : tie.Need-returns-3
-returns-3 c = other _ _ _ (omega arith) c.if3.true
-
-rem-result : tie.Need-nonzero-rem-result
-rem-result c = search rules
-
-returns-4 : tie.Need-returns-4
-returns-4 c = rest _ _ _ c.if3.false
-
-pub is-product-spec : {M : Type 1} → statement M
-is-product-spec = tie.close (tie.spec small-requires mul-result returns returns-2 div-if3 returns-3 rem-result returns-4)
+pub returns : goal.returns
+returns c = rest _ _ _ c.if-length-size.false
