@@ -1,0 +1,31 @@
+use mathlib.Core.Path.{◌≡◌, refl, sym, ap₂, ◌∙◌}
+use mathlib.Core.Bool.{Bool, cond}
+use Prim.Native.Nat.{ℕ, suc, ◌-◌, ◌/◌, ◌^◌, ◌≤◌}
+use native.Mathlib.Nat.{div-one}
+use native.Mathlib.Omega.{arith}
+use Rattle.base.proofs.Filled.{filled_none, filled_more}
+use Rattle.serials.proofs.Laws.{low_bit, next_bit, stamped-filled}
+use Rattle.serials.proofs.hand_on.Goals as goal
+
+pub loop-at-init : goal.loop-at-init
+loop-at-init c = (omega arith, sym (div-one _), filled_none _ _)
+
+pub bounds-out-at : goal.bounds-out-at
+bounds-out-at c = omega (arith, c.loop-at.invariant.2.same)
+
+pub loop-at-preserved : goal.loop-at-preserved
+loop-at-preserved c =
+    let l = c.loop-at in
+    let a = c.args in
+    let w = l.invariant.2 in (
+      omega arith,
+      next_bit _ l.at _ l.invariant.1,
+      filled_more _ l.at _ l.out _ (omega (arith, w.same))
+          (c.pick.ensures ∙ ap₂ (λ (b : Bool) (x : ℕ). cond b a.serial x) (low_bit a.set.0 l.at _ l.invariant.1) c.serial_of.ensures) w,
+    )
+
+pub shape_of-out : goal.shape_of-out
+shape_of-out c = c.loop-at.invariant.2.same
+
+pub returns : goal.returns
+returns c = stamped-filled _ _ refl (omega arith) c.loop-at.invariant.2

@@ -1,0 +1,15 @@
+-- After `at` turns so many nodes are done, and their bits are gone from the rest. Assumes nothing.
+use mathlib.Core.Path.{◌≡◌, refl, sym, ap₂, ◌∙◌}
+use mathlib.Core.Bool.{Bool, cond}
+use Prim.Native.Nat.{ℕ, suc, ◌-◌, ◌/◌, ◌^◌, ◌≤◌}
+use lib.ListN.{length, get_or}
+use Rattle.base.specs.Parts.{Filled}
+use Rattle.params.specs.Nodes.{has}
+use Rattle.serials.proofs.hand_on.Given as goal
+
+abbrev pub invariant-loop-at : goal.invariant-loop-at
+invariant-loop-at l =
+    (l.at ≤ length l.initial.out) × (l.rest ≡ l.initial.rest / 2 ^ l.at) × Filled (λ j. cond (has l.initial.rest (suc j)) l.serial (get_or l.serials j 0)) l.at l.initial.out l.out
+
+abbrev pub decreases-loop-at : goal.decreases-loop-at
+decreases-loop-at l = length l.initial.out - l.at

@@ -1,0 +1,10 @@
+-- The word has a bit for each node from `at` + 1 on. Assumes nothing.
+use Prim.Native.Nat.{◌-◌}
+use Rattle.serials.proofs.Laws.{Older, older-none, older-fits, older-more, older-all, bit_le}
+use Rattle.serials.proofs.older.Given as goal
+
+abbrev pub invariant-loop-at : goal.invariant-loop-at
+invariant-loop-at l = Older l.serials l.serial l.at l.word
+
+abbrev pub decreases-loop-at : goal.decreases-loop-at
+decreases-loop-at l = l.at
