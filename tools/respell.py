@@ -102,7 +102,13 @@ def main():
             print("falls together:", new, olds)
 
     def turn(text):
-        return TOKEN.sub(lambda m: rename.get(m.group(), m.group()), text)
+        """Line by line: in a comment "set-up" is English."""
+        words = {**rename, "set-up": "set-up"}
+        lines = text.split("\n")
+        for i, line in enumerate(lines):
+            own = words if line.lstrip().startswith(("--", "//", "#")) else rename
+            lines[i] = TOKEN.sub(lambda m: own.get(m.group(), m.group()), line)
+        return "\n".join(lines)
 
     for path in files((".antt", ".rt", ".edit")):
         text = open(path, encoding="utf-8").read()

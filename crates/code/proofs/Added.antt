@@ -61,7 +61,7 @@ module _ (a : Params) (x v x' v' : List ℕ) where
           ap (λ (y : ℕ). add y (block a x v (suc j) p)) (u.kept j p hj e hp) ∙ h j p hj hp
           ∙ ap (λ (y : ℕ). add y (block a x' v' (suc j) p)) (sym (u'.kept j p hj e hp))
 
-  -- One rebuild on both sides, whatever the records hold: the sums of the pair read and the pair of the set_up agree at the nodes read, and so everywhere.
+  -- One rebuild on both sides, whatever the records hold: the sums of the pair read and the pair of the set-up agree at the nodes read, and so everywhere.
   pub repair-same : Valid a → Pair a x v → Pair a x' v' → (from lost : ℕ) → Reads a (used a from) → (c c' new new' : List ℕ)
       → SameAdded c c' → Repaired a c from lost new → Repaired a c' from lost new' → SameAdded new new'
   repair-same ok pair pair' from lost full c c' new new' h r r' j p hj hp = go (has lost (suc j)) refl

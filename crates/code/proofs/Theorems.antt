@@ -28,7 +28,7 @@ pub gives_same : (a : Params) (from : ℕ) {x v left codeword : List ℕ} → Sa
     → Gives a x v (used a from) left
 gives_same a from same g = record { pair = g.pair; equal = λ j p hj s hp. g.equal j p hj s hp ∙ sym (same j p hj s hp) }
 
--- Message and slack of an accepted set_up are a pair of the code.
+-- Message and slack of an accepted set-up are a pair of the code.
 pub encode-pair : {a : Params} {x v buffer numbers codeword serials : List ℕ} → Bytes x → Bytes v → EncodePost a x v buffer numbers 0 codeword serials → Pair a x v
 encode-pair {a = a} hx hv post =
     let g = (encode-accepted a _ _ _ _).0 (sym post.number) in

@@ -1,4 +1,4 @@
--- What the cores of set_up ask. No statement about a call rests on these names. Assumes nothing.
+-- What the cores of set-up ask. No statement about a call rests on these names. Assumes nothing.
 use Rattle.std.specs.Prelude.{◌≡◌, ℕ, ◌+◌, ◌*◌, ◌≤◌}
 use Rattle.params.specs.Params.{working}
 use Rattle.params.specs.declared.Params.{Params}

@@ -1,4 +1,4 @@
-// Document 01's set_up: from message and slack to the blocks of all nodes, with serials 0. The call is its gate, and then a private core: message and slack are
+// Document 01's set-up: from message and slack to the blocks of all nodes, with serials 0. The call is its gate, and then a private core: message and slack are
 // laid side by side, so that one product by the powers of the nodes' points gives all blocks.
 #![tactic(auto)]
 

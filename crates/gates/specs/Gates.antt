@@ -24,7 +24,7 @@ block_asked a = ask (leb 1 a.b && leb a.b 1024) 5
 abbrev pub params_asked : Params → List Question
 params_asked a = shape_asked 0 (shape_of a) ++ (block_asked a ∷ [])
 
--- "Has each lent slice its exact length? No: 6." Serials are "a slice of n numbers lent to set_up, change, rebuild and rearrangement (old and new) under
+-- "Has each lent slice its exact length? No: 6." Serials are "a slice of n numbers lent to set-up, change, rebuild and rearrangement (old and new) under
 -- question 6" (document 02, 2026-03).
 abbrev pub lengths_asked : Bool → Question
 lengths_asked right = ask right 6
@@ -49,7 +49,7 @@ serial_asked serial = ask (leb 1 serial) 24
 abbrev pub node_asked : ℕ → ℕ → Question
 node_asked n i = ask (leb 1 i && leb i n) 10
 
--- ".. and 6, and then: set_up and check nothing more": set_up, with the lengths of message, slack, record and serials
+-- ".. and 6, and then: set-up and check nothing more": set-up, with the lengths of message, slack, record and serials
 unfoldable pub encode_gate : Params → ℕ → ℕ → ℕ → ℕ → ℕ
 encode_gate a message slack codeword serials =
     first_no

@@ -218,7 +218,7 @@ pub demand-2-blame-none : (a : Params) (codeword : List ℕ) (budget : ℕ) (bla
 demand-2-blame-none a codeword budget blame bytes post some =
     blame-none a codeword budget blame ((check-accepted a _).0 post.0).valid bytes some post.1
 
--- From message to blocks, and from any r blocks back: an accepted reading through r nodes, the q lowest of which hold their blocks of an accepted set_up
+-- From message to blocks, and from any r blocks back: an accepted reading through r nodes, the q lowest of which hold their blocks of an accepted set-up
 -- (SameAt), gives its message, whatever the others hold, those of R too.
 pub demand-2-back : (a : Params) (message slack old numbers codeword serials left buffer out : List ℕ) (from : ℕ) → Bytes message → Bytes slack
     → EncodePost a message slack old numbers 0 codeword serials → SameAt a from left codeword → DecodePost a left from buffer 0 out → out ≡ message
@@ -228,7 +228,7 @@ demand-2-back a message slack old numbers codeword serials left buffer out from 
     decode-encode a e.valid from d.from_within d.from_size message slack codeword out (encode-pair hm hs set_up) (set_up.served refl).0
     (record { slack = (reading.served refl).slack; gives = gives_same a from (λ j p hj s hp. sym (same j p hj s hp)) (reading.served refl).gives })
 
--- 3. For every list of History: it opens with an accepted set_up and has no other; each accepted call is given the arrangement in force and the record, with the
+-- 3. For every list of History: it opens with an accepted set-up and has no other; each accepted call is given the arrangement in force and the record, with the
 -- serials where it is lent them, as the list so far has left them; each accepted change is a send of the change that its serial had before, or begins one, under a
 -- higher serial and with none open; accepted rebuilds and rearrangements read undamaged nodes, between closed changes; damage puts whichever bytes into the nodes of
 -- whichever set within n, one or several together (document 02, 2026-04). (Document 02 asks two things more, which are not needed: that a closed change is not sent again
@@ -264,7 +264,7 @@ NoneDamaged m from = (i : ℕ) → has from i ≡ true → m.damaged i ≡ false
 abbrev AllClosed : Machine → Type 0
 AllClosed m = (s : ℕ) → m.sends.sent s ≡ true → (i : ℕ) → has (m.sends.to s) i ≡ true → m.sends.reached s i ≡ true
 
--- An accepted set_up over whichever buffers (SetUp) ..
+-- An accepted set-up over whichever buffers (SetUp) ..
 pub demand-3-set-up : {a : Params} {message slack buffer numbers codeword serials : List ℕ} → Bytes message → Bytes slack → Bytes buffer → Words32 numbers
     → EncodePost a message slack buffer numbers 0 codeword serials → SetUp a message slack codeword serials
 demand-3-set-up {buffer = buffer} {numbers = numbers} hx hv hb hn post =
@@ -400,7 +400,7 @@ pub stolen : {a : Params} {message slack : List ℕ} {events : List Event} {h : 
     → ExactlyOne (EndsAlike a events nodes h.codeword message')
 stolen y message' parts nodes inside many = S.stolen-one y message' parts nodes (record { inside = inside; many = many })
 
--- "every list of accepted changes and rebuilds": an accepted set_up begins one (UpkeepAfter), ..
+-- "every list of accepted changes and rebuilds": an accepted set-up begins one (UpkeepAfter), ..
 pub stolen-begins : {a : Params} {message slack buffer numbers codeword serials : List ℕ} → Bytes message → Bytes slack → Bytes buffer → Words32 numbers
     → EncodePost a message slack buffer numbers 0 codeword serials → UpkeepAfter a message slack [] (begun a codeword serials)
 stolen-begins = U.begins
@@ -417,7 +417,7 @@ pub stolen-rebuild : {a : Params} {message slack : List ℕ} {events : List Even
     → UpkeepAfter a message slack (events ++ call (in_force h) (repair from lost) ∷ []) (with_record new serials h)
 stolen-rebuild = U.rebuild-next
 
--- "used after both set-ups": after every other accepted set_up under these parameters, with whichever message, slack and buffers, the list is accepted too, and the
+-- "used after both set-ups": after every other accepted set-up under these parameters, with whichever message, slack and buffers, the list is accepted too, and the
 -- serials, which are kept beside the record, end the same.
 pub stolen-accepted : {a : Params} {message slack : List ℕ} {events : List Event} {h : Held} → UpkeepAfter a message slack events h
     → (message' slack' buffer numbers codeword serials : List ℕ) → Bytes message' → Bytes slack' → Bytes buffer → Words32 numbers
@@ -425,7 +425,7 @@ pub stolen-accepted : {a : Params} {message slack : List ℕ} {events : List Eve
     → (h' : Held) × Upkeep (begun a codeword serials) events h' × (h'.serials ≡ h.serials)
 stolen-accepted = S.upkeep-too
 
--- What a set_up and a list leave is settled by message, slack and list: no "there is" above leaves a choice.
+-- What a set-up and a list leave is settled by message, slack and list: no "there is" above leaves a choice.
 pub stolen-settled : {a : Params} {message slack : List ℕ} {events : List Event} {h h' : Held} → UpkeepAfter a message slack events h
     → UpkeepAfter a message slack events h' → h ≡ h'
 stolen-settled = U.after-once
@@ -442,7 +442,7 @@ pub stolen-more : {a : Params} {message slack : List ℕ} {events : List Event} 
     → (message' : List ℕ) × Parts a.b a.k message' × ((slack' : List ℕ) → EndsAlike a events nodes h.codeword message' slack' → ⊥)
 stolen-more = S.more-none
 
--- .. And n − w + k nodes or more, the working number, tell message and slack of the set_up to one who knows the list; with k = 1 that is one node more.
+-- .. And n − w + k nodes or more, the working number, tell message and slack of the set-up to one who knows the list; with k = 1 that is one node more.
 pub stolen-all : {a : Params} {message slack : List ℕ} {events : List Event} {h : Held} → UpkeepAfter a message slack events h → (nodes : ℕ)
     → within a.n nodes ≡ true → working a ≤ size nodes → (message' slack' : List ℕ) → EndsAlike a events nodes h.codeword message' slack'
     → (message' ≡ message) × (slack' ≡ slack)

@@ -37,7 +37,7 @@ pub agrees-sound : (h : Held) (m : Machine) → Agrees h m → Closed m.sends �
 agrees-sound h m i closed =
     closed-sound h.params i.valid h.codeword h.serials m.ledger m.damaged m.sends i.top i.stamps closed i.finished
 
--- ---- the opening set_up
+-- ---- the opening set-up
 
 opening-agrees : (a : Params) (x v buffer numbers codeword serials : List ℕ) → Bytes x → Bytes v → EncodePost a x v buffer numbers 0 codeword serials
     → Agrees (begun a codeword serials) (opened a x)

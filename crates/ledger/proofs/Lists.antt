@@ -1,4 +1,4 @@
--- A list of calls and damage grows at its end: an accepted set_up begins one, and an event that may come next makes it longer. Assumes nothing.
+-- A list of calls and damage grows at its end: an accepted set-up begins one, and an event that may come next makes it longer. Assumes nothing.
 use mathlib.Core.Path.{◌≡◌}
 use mathlib.Core.List.{List, [], ◌∷◌, ◌++◌}
 use Prim.Native.Nat.{ℕ}

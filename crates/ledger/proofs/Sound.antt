@@ -44,7 +44,7 @@ damaged-other a codeword bytes nodes j p hj hp e = cell-blocks a.b a.n _ j p hj 
     other true x y e = absurd (true≢false e)
     other false x y e = refl
 
--- After a set_up every block is the pair's.
+-- After a set-up every block is the pair's.
 pub encode-sound : (a : Params) (x v codeword : List ℕ) → Pair a x v → Encoded a x v codeword → Sound a codeword x (λ i. false)
 encode-sound a x v codeword pair e = record { slack = v; pair = pair; holds = λ j p hj d hp. e.holds j p hj hp }
 

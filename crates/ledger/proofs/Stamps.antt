@@ -101,7 +101,7 @@ every-still : (a : Params) (serials serials' : List ℕ) (top : ℕ) → ((j : �
 every-still a serials serials' top low rise from e =
     omega (arith, highest-le (has from) serials' a.n top (λ j hj _. low j hj), highest-mono (has from) serials serials' a.n rise, e)
 
--- ---- the opening set_up
+-- ---- the opening set-up
 
 pub stamps_begun : (a : Params) (serials : List ℕ) → length serials ≡ a.n → ((j : ℕ) → get_or serials j 0 ≡ 0) → Stamps a serials no_sends 0
 stamps_begun a serials many zeros =

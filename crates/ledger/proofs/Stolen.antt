@@ -135,7 +135,7 @@ module _ {a : Params} {x v : List ℕ} {events : List Event} {h : Held} (y : Upk
   pair : Pair a x v
   pair = encode-pair y.typed.0 y.typed.1 y.opening
 
-  -- After every other accepted set_up the list is accepted too. It ends with the same serials and the same added.
+  -- After every other accepted set-up the list is accepted too. It ends with the same serials and the same added.
   module _ (x' v' buffer numbers codeword serials : List ℕ) (hx : Bytes x') (hv : Bytes v') (hb : Bytes buffer) (hn : Words32 numbers)
       (post : EncodePost a x' v' buffer numbers 0 codeword serials) where
     after_next : (h' : Held) × Upkeep (begun a codeword serials) events h' × Beside a x v x' v' pair (encode-pair hx hv post) h h'
@@ -163,13 +163,13 @@ module _ {a : Params} {x v : List ℕ} {events : List Event} {h : Held} (y : Upk
         (subst (λ (c : List ℕ). SameAdded a x v x' v' c n.0.codeword) (ap (λ (h : Held). h.codeword) (sym n.2.first))
         (subst (λ (c : List ℕ). SameAdded a x v x' v' n.2.c c) (ap (λ (h : Held). h.codeword) (sym n.2.second)) n.2.same))
 
-  -- what it adds, after a set_up with this message and slack
+  -- what it adds, after a set-up with this message and slack
   added : {x' v' : List ℕ} {end : Held} → UpkeepAfter a x' v' events end → SameAdded a x v x' v' h.codeword end.codeword
   added {x'} {v'} {end} u =
       added-too x' v' u.buffer u.numbers u.codeword u.serials u.typed.0 u.typed.1 u.typed.2 u.typed.3 u.opening end u.upkeep
 
   module _ (x' : List ℕ) (hx : Parts a.b a.k x') where
-    -- every slack of the second message has such a set_up, say over the first one's buffers, and the list after it
+    -- every slack of the second message has such a set-up, say over the first one's buffers, and the list after it
     ends : (v' : List ℕ) → Parts a.b (slack_parts a) v' → (end : Held) × UpkeepAfter a x' v' events end
     ends v' hv =
         let g = (encode-accepted a _ _ _ _).0 (sym y.opening.number) in

@@ -105,7 +105,7 @@ pub ends-alike : EndsAlike loose events 0b10010 first.codeword (0x00 ∷ []) (0x
 unfolding has cell
 ends-alike = record { end = second; after = second-after; alike = same 5 1 (has 0b10010) (cell 1 first.codeword) (cell 1 second.codeword) tt }
 
--- .. and after no other set_up of message 00.
+-- .. and after no other set-up of message 00.
 pub one-slack : (slack : List ℕ) → EndsAlike loose events 0b10010 first.codeword (0x00 ∷ []) slack → slack ≡ 0xde ∷ 0x2b ∷ []
 one-slack slack e =
     let one = stolen-one first-after (0x00 ∷ []) (record { length_is = refl; bytes = bytes (0x00 ∷ []) tt }) 0b10010 handful in

@@ -1,4 +1,4 @@
--- Lists of accepted changes and rebuilds after a set_up (document 02, 2026-07): an accepted set_up begins one, every accepted change and every accepted rebuild may
+-- Lists of accepted changes and rebuilds after a set-up (document 02, 2026-07): an accepted set-up begins one, every accepted change and every accepted rebuild may
 -- come next, and what is then held is settled. Assumes nothing.
 use mathlib.Core.Path.{◌≡◌, refl, sym, ap₂, subst}
 use mathlib.Core.List.{List, [], ◌∷◌, ◌++◌}
@@ -65,7 +65,7 @@ upkeep-once done done = refl
 upkeep-once {h = h} {end' = end'} (more {e = e} {es = es} ty i st rest) (more ty' i' st' rest') =
     upkeep-once rest (subst (λ (h : Held). Upkeep h es end') (sym (step-unique h e st st').1) rest')
 
--- .. and what a set_up and a list leave, whatever the buffers held before.
+-- .. and what a set-up and a list leave, whatever the buffers held before.
 pub after-once : {a : Params} {x v : List ℕ} {events : List Event} {h h' : Held} → UpkeepAfter a x v events h → UpkeepAfter a x v events h' → h ≡ h'
 after-once {a = a} {x = x} {v = v} {events = events} {h' = h'} y y' =
     let same =

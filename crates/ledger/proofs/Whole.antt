@@ -218,7 +218,7 @@ run-whole : {h h' : Held} {m m' : Machine} {events : List Event} → Whole h →
 run-whole w done = w
 run-whole w (more {h = h} {e = e} ty al st rest) = run-whole (step-whole h e w ty st) rest
 
--- An accepted set_up leaves a whole state, ..
+-- An accepted set-up leaves a whole state, ..
 pub opening-whole : (a : Params) (x v buffer numbers codeword serials : List ℕ) → Bytes buffer → Words32 numbers
     → EncodePost a x v buffer numbers 0 codeword serials → Whole (begun a codeword serials)
 opening-whole a x v buffer numbers codeword serials hb hn post =

@@ -20,7 +20,7 @@ pub record Held : Type 0 where
   pub codeword : List ℕ
   pub serials : List ℕ
 
--- what an accepted set_up leaves
+-- what an accepted set-up leaves
 abbrev pub begun : Params → List ℕ → List ℕ → Held
 begun a codeword serials = record { params = a; codeword = codeword; serials = serials }
 
@@ -59,7 +59,7 @@ pub record Machine : Type 0 where
   pub damaged : ℕ → Bool
   pub sends : Sends
 
--- "An accepted set_up puts its arrangement in force and the message in the ledger and empties the set."
+-- "An accepted set-up puts its arrangement in force and the message in the ledger and empties the set."
 abbrev pub opened : Params → List ℕ → Machine
 opened a x = record { params = a; ledger = x; damaged = λ i. false; sends = no_sends }
 
@@ -280,7 +280,7 @@ pub data Run : Held → Machine → List Event → Held → Machine → Type 0 w
   more : {h h' h'' : Held} {m m'' : Machine} {e : Event} {q : ℕ} {es : List Event}
       → Typed e → (q ≡ 0 → Allowed h m e) → Step h e q h' → Run h' (stepped q m e) es h'' m'' → Run h m (e ∷ es) h'' m''
 
--- "A list opens with an accepted set_up, over whichever bytes the record's buffer held", and whichever numbers that of the serials.
+-- "A list opens with an accepted set-up, over whichever bytes the record's buffer held", and whichever numbers that of the serials.
 pub record History (events : List Event) (h : Held) (m : Machine) : Type 0 where
   pub params : Params
   pub message : List ℕ

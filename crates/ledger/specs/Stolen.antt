@@ -1,4 +1,4 @@
--- "What a stolen handful of traps tells" (document 02, 2026-07): a set_up and a list of accepted changes and rebuilds after it, and whether some nodes then hold the
+-- "What a stolen handful of traps tells" (document 02, 2026-07): a set-up and a list of accepted changes and rebuilds after it, and whether some nodes then hold the
 -- same. The steps of the list are those of Ledger.antt, by the very post-conditions of the calls. Assumes nothing.
 use Rattle.std.specs.Prelude.{◌≡◌, true, List, [], ◌∷◌, ℕ, suc, ◌-◌, ◌<◌}
 use Rattle.base.specs.Seq.{cell}
@@ -32,7 +32,7 @@ pub data Upkeep : Held → List Event → Held → Type 0 where
   done : {h : Held} → Upkeep h [] h
   more : {h h' h'' : Held} {e : Event} {es : List Event} → Typed e → ChangeOrRebuild h e → Step h e 0 h' → Upkeep h' es h'' → Upkeep h (e ∷ es) h''
 
--- .. "used after" a set_up with this message and slack, accepted, over whichever bytes and numbers the buffers held.
+-- .. "used after" a set-up with this message and slack, accepted, over whichever bytes and numbers the buffers held.
 pub record UpkeepAfter (a : Params) (message slack : List ℕ) (events : List Event) (h : Held) : Type 0 where
   pub buffer : List ℕ
   pub numbers : List ℕ
@@ -47,7 +47,7 @@ abbrev pub Alike : Params → (stolen : ℕ) → List ℕ → List ℕ → Type 
 Alike a stolen codeword codeword' =
     (j p : ℕ) → j < a.n → has stolen (suc j) ≡ true → p < a.b → cell a.b codeword j p ≡ cell a.b codeword' j p
 
--- After a set_up with this message and slack the list ends, all of it accepted, with what is held at the nodes of the set equal to the given record's.
+-- After a set-up with this message and slack the list ends, all of it accepted, with what is held at the nodes of the set equal to the given record's.
 pub record EndsAlike (a : Params) (events : List Event) (stolen : ℕ) (codeword message slack : List ℕ) : Type 0 where
   pub end : Held
   pub after : UpkeepAfter a message slack events end

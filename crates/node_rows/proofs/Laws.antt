@@ -19,7 +19,7 @@ use Rattle.coefficients.specs.Coefficients.{power_rows, PowersPost, Reads, Reada
 use Rattle.coefficients.proofs.Laws.{length-power_rows, power_rows-at, reads_at, extends-at}
 use Rattle.node_rows.specs.Rows.{point_powers, EncodesPost}
 
--- ---- a set_up
+-- ---- a set-up
 
 pub length-point_powers : (n m : ℕ) → length (point_powers n m) ≡ n * m
 unfolding point_powers

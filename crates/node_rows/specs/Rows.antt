@@ -1,4 +1,4 @@
--- The rows of a set_up, over nodes. Assumes nothing.
+-- The rows of a set-up, over nodes. Assumes nothing.
 use Rattle.std.specs.Prelude.{◌≡◌, List, ℕ, suc, ◌*◌, ◌≤◌, length}
 use Rattle.base.specs.Seq.{tabulate}
 use Rattle.code.specs.Code.{point}

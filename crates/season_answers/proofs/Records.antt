@@ -1,4 +1,4 @@
--- Parameters have a record exactly where a set_up accepts them. Assumes nothing.
+-- Parameters have a record exactly where a set-up accepts them. Assumes nothing.
 use mathlib.Core.Path.{◌≡◌}
 use mathlib.Core.Logic.{⊎_elim}
 use Prim.Native.Nat.{ℕ}

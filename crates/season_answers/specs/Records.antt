@@ -3,6 +3,6 @@ use Rattle.std.specs.Prelude.{◌≡◌, ◌⊎◌, ℕ, ◌*◌}
 use Rattle.gates.specs.Valid.{Valid}
 use Rattle.params.specs.declared.Params.{Params}
 
--- the length of a record, or 0 for parameters that no set_up accepts
+-- the length of a record, or 0 for parameters that no set-up accepts
 abbrev pub RecordLength : Params → ℕ → Type 0
 RecordLength a length = (Valid a × (length ≡ a.n * a.b)) ⊎ ((Valid a → ⊥) × (length ≡ 0))

@@ -66,7 +66,7 @@ fn extent(count: usize, size: usize) -> usize
     count * size
 }
 
-// The length of a record; 0 for parameters that no set_up accepts.
+// The length of a record; 0 for parameters that no set-up accepts.
 pub fn record_length(a: Params) -> usize
     ensures { RecordLength a result }
 {

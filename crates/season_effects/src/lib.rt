@@ -24,7 +24,7 @@ pub struct Effect {
 }
 
 // The event's answer and its effect, with room for a message or a new record: none where it is refused. The serial is the event's number. The room has 32,768
-// bytes too; with other lengths, with parameters that no set_up accepts, or where the event's blocks do not stand in the input in full, nothing is done.
+// bytes too; with other lengths, with parameters that no set-up accepts, or where the event's blocks do not stand in the input in full, nothing is done.
 pub fn take_effect(
     a: Params,
     input: &[u8],

@@ -49,7 +49,7 @@ slack_count_at input = 14 + number_at input 12
 abbrev pub events_count_at : List ℕ → ℕ
 events_count_at input = slack_count_at input + 2 + number_at input (slack_count_at input)
 
--- "All four counts, and the bytes of the first three sections, are read before the set_up is tried, and a fault among them is event 0's; the first count is
+-- "All four counts, and the bytes of the first three sections, are read before the set-up is tried, and a fault among them is event 0's; the first count is
 -- tested before anything after it is read." "20 first count is not 5; 21 bytes end early".
 unfoldable pub opening_of : List ℕ → Opening
 opening_of input =

@@ -94,7 +94,7 @@ pub struct Header {
     pub at: usize,
 }
 
-// What the input begins with: a fault of event 0, or all that is read before the set_up is tried.
+// What the input begins with: a fault of event 0, or all that is read before the set-up is tried.
 #[derive(Clone, Copy)]
 pub enum Opening {
     Faulty(u32),

@@ -117,7 +117,7 @@ module _ (buffer serials line : List ℕ) {t t₁ : Turn} {buffer' buffer'' seri
     x.line_kept ∙ sym y.line_kept,
   )
 
--- The set_up, ..
+-- The set-up, ..
 pub begin-once : (input buffer serials line : List ℕ) {t t₁ : Turn} {buffer' buffer'' serials' serials'' line' line'' : List ℕ}
     → BeginPost input buffer serials line t buffer' serials' line' → BeginPost input buffer serials line t₁ buffer'' serials'' line''
     → (t ≡ t₁) × (buffer' ≡ buffer'') × (serials' ≡ serials'') × (line' ≡ line'')

@@ -169,7 +169,7 @@ Stands here = Whole here.stands × (here.number + here.left ≤ 65536)
 module _ (input : List ℕ) (bytes : Bytes input) where
   -- ---- every run keeps a whole state
 
-  -- the opening set_up is that of a list
+  -- the opening set-up is that of a list
   pub opens-history : {line : List ℕ} {here : Place} (hd : Header) → opening_of input ≡ opening.Whole hd → Opens input line (on here)
       → History [] here.stands (ledger.opened hd.params (bytes_of input hd.message))
   opens-history hd i (opened hd' codeword serials i' post) =

@@ -63,9 +63,9 @@ silent-turn Result buffer serials line t e result =
       serials_rest = refl;
     })
 
--- ---- the set_up
+-- ---- the set-up
 
--- parameters that no set_up accepts are refused before a length is looked at
+-- parameters that no set-up accepts are refused before a length is looked at
 invalid-gate : (a : Params) (message slack codeword serials codeword' serials' : ℕ) → (Valid a → ⊥)
     → encode_gate a message slack codeword serials ≡ encode_gate a message slack codeword' serials'
 unfolding encode_gate
@@ -84,7 +84,7 @@ all-nodes n nodes le past few = ⊎_elim (λ (lt : nodes < n). absurd (omega (ar
 module _ (input : List ℕ) (hd : Header) (whole : opening_of input ≡ opening.Whole hd) (buffer serials : List ℕ) (room : length buffer ≡ 32768)
     (count : length serials ≡ 32) (size nodes : ℕ) (record-size : RecordLength hd.params size) (few : nodes ≤ 32)
     (all : hd.params.n ≤ 32 → nodes ≡ hd.params.n) where
-  -- the answer of the call is that of the set_up
+  -- the answer of the call is that of the set-up
   number_is : encode_gate hd.params (length (bytes_of input hd.message)) (length (bytes_of input hd.slack)) (length (take size buffer))
       (length (take nodes serials)) ≡ set_up_answer input hd
   number_is =

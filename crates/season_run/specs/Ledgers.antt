@@ -20,7 +20,7 @@ listed_at input here f = listed here.stands input here.number f.event
 abbrev pub answer_at : Place → Found → ℕ
 answer_at here f = answer_of here.stands.params here.number f.event
 
--- The run of the input got to a place: the list of the events tried so far, in order, and what the machine holds after them. The opening set_up, which puts
+-- The run of the input got to a place: the list of the events tried so far, in order, and what the machine holds after them. The opening set-up, which puts
 -- the message in the ledger, stands before the list.
 pub data Reached (input : List ℕ) : List Event → Place → Machine → Type 0 where
   opened : {line : List ℕ} {here : Place} (hd : Header) → opening_of input ≡ opening.Whole hd → Opens input line (on here)

@@ -54,7 +54,7 @@ pub data Goes (input : List ℕ) (here : Place) : List ℕ → Outcome → Type 
       → Tried input here.stands here.number f.event line h'
       → Goes input here line (on (record { stands = h'; number = suc here.number; left = more; at = f.next }))
 
--- "The set_up prints first, as event 0, kind 0; if refused, the run ends."
+-- "The set-up prints first, as event 0, kind 0; if refused, the run ends."
 abbrev pub set_up_answer : List ℕ → Header → ℕ
 set_up_answer input hd =
     encode_gate hd.params (length (bytes_of input hd.message)) (length (bytes_of input hd.slack)) (hd.params.n * hd.params.b) hd.params.n
@@ -125,7 +125,7 @@ pub record Turned (Result : List ℕ → Outcome → Type 0) (buffer serials lin
   pub serials_length : length serials' ≡ length serials
   pub serials_rest : drop (serials_end t.next) serials' ≡ drop (serials_end t.next) serials
 
--- nothing is done with buffers of other lengths, or from a state with parameters that no set_up accepts or a number above 65,536
+-- nothing is done with buffers of other lengths, or from a state with parameters that no set-up accepts or a number above 65,536
 pub record Idle (buffer serials line : List ℕ) (t : Turn) (buffer' serials' line' : List ℕ) : Type 0 where
   pub ends : t ≡ record { written = 0; next = next.End }
   pub buffer_kept : buffer' ≡ buffer

@@ -1,4 +1,4 @@
-// The set_up, which prints first.
+// The set-up, which prints first.
 ghost use Rattle.std.specs.Prelude.{◌≡◌};
 ghost use Rattle.season_file.specs.File.{opening_of};
 ghost use Rattle.season_file.specs.declared.Opening.TheVariants.{Whole};
@@ -12,7 +12,7 @@ use season_file::parsing::open;
 use season_file::{Header, Opening};
 use season_lines::write_line;
 
-// Tries the set_up: its line, the record at the front of the codeword's buffer, of 32,768 bytes, and the serials at the front of theirs, of 32 numbers. The line's
+// Tries the set-up: its line, the record at the front of the codeword's buffer, of 32,768 bytes, and the serials at the front of theirs, of 32 numbers. The line's
 // has 65,600 bytes; with other lengths nothing is done.
 pub fn begin(input: &[u8], codeword: &mut [u8], serials: &mut [u32], line: &mut [u8]) -> Turn
     ensures { BeginPost input.now codeword.old serials.old line.old result codeword.new serials.new line.new }

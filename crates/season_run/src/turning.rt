@@ -1,4 +1,4 @@
-// One event after the set_up.
+// One event after the set-up.
 ghost use Rattle.std.specs.Prelude.{◌≡◌, List, ℕ, ◌≤◌, ◌<◌, length};
 ghost use Rattle.season_file.specs.File.{item_at};
 ghost use Rattle.season_file.specs.declared.Item.TheVariants.{Whole};
