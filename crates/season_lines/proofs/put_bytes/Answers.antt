@@ -10,8 +10,7 @@ loop-i-init c = (omega arith, (refl, put-start c.args.text.now _ _))
 
 pub loop-i-preserved : goal.loop-i-preserved
 loop-i-preserved c = let l = c.loop-i in
-    let s = c in
-    (omega arith, (simp length-set l.invariant.1.0, put_next _ _ _ l.i _ (omega (arith, s.requires)) (omega (arith, s.requires, l.invariant.1.0)) (omega arith) l.invariant.1.1))
+    (omega arith, (simp length-set l.invariant.1.0, put_next _ _ _ l.i _ (omega (arith, c.requires)) (omega (arith, c.requires, l.invariant.1.0)) (omega arith) l.invariant.1.1))
 
 pub returns : goal.returns
 returns c = put_whole _ _ _ c.loop-i.i _ (omega arith) (omega arith) c.loop-i.invariant.1.1

@@ -14,19 +14,17 @@ hex_digit-requires c = omega (arith, c.shared_slice_known-1.given c.loop-i.i)
 
 pub bounds-line-next-in-loop-i : goal.bounds-line-next-in-loop-i
 bounds-line-next-in-loop-i c =
-    let l = c in
-    let s = l in
-    simp length-set (omega (arith, s.requires, l.loop-i.invariant.1.0, l.loop-i.invariant.1.1.0))
+    simp length-set (omega (arith, c.requires, c.loop-i.invariant.1.0, c.loop-i.invariant.1.1.0))
 
 pub loop-i-preserved : goal.loop-i-preserved
 loop-i-preserved c = let l = c.loop-i in
-    let s = c in (
+    (
       omega arith,
       (
         omega (arith, l.invariant.1.0),
         (
           simp length-set l.invariant.1.1.0,
-          hex-next _ _ _ l.i _ _ _ _ (omega (arith, s.requires)) (omega (arith, s.requires, l.invariant.1.0, l.invariant.1.1.0)) (omega arith)
+          hex-next _ _ _ l.i _ _ _ _ (omega (arith, c.requires)) (omega (arith, c.requires, l.invariant.1.0, l.invariant.1.1.0)) (omega arith)
               c.hex_digit.ensures c.hex_digit-in-loop-i.ensures l.invariant.1.1.1,
         ),
       ),

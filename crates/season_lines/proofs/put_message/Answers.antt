@@ -8,8 +8,4 @@ returns-then-message-eq0 c = no-message _ _ _ c.if-message-eq0.true
 
 pub returns : goal.returns
 returns c =
-    let h = c in
-    let b = h in
-    let t = b in
-    let s = t in
-    message-put _ _ _ _ _ _ _ t.if-message-eq0.false (omega (arith, s.requires)) b.put_byte-start.ensures h.put_hex.ensures
+    message-put _ _ _ _ _ _ _ c.if-message-eq0.false (omega (arith, c.requires)) c.put_byte-start.ensures c.put_hex.ensures

@@ -5,4 +5,4 @@ use Rattle.season_lines.proofs.put_number.Goals as goal
 pub returns : goal.returns
 returns c =
     let d = c.last_digits-start in
-    put-tail d.result _ _ _ _ _ _ d.auto.1.0 d.ensures.1 c.put_bytes.ensures
+    put-tail d.result _ _ _ _ _ _ d.auto.digits d.ensures.1 c.put_bytes.ensures
