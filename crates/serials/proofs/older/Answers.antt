@@ -8,7 +8,7 @@ use Rattle.serials.proofs.older.Goals as goal
 pub loop-at-init : goal.loop-at-init
 loop-at-init c =
     let e = c.shorter-at.ensures in
-    older-none _ _ c.shorter-at.result e.0 e.1.0 e.1.1
+    older-none _ _ c.shorter-at.result e.upper_bound e.upper_bound_2 e.lower_bound
 
 pub overflow_mul-word : goal.overflow_mul-word
 overflow_mul-word c = omega (arith, older-fits c.loop-at.invariant (omega arith))
