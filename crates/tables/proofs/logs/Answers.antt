@@ -1,0 +1,7 @@
+-- The table is the list of exponents, entry by entry: antt computes the list and compares. Assumes nothing.
+use Rattle.field.proofs.Exponents.{logs, log-table}
+use Rattle.tables.proofs.logs.Goals as goal
+
+pub returns : goal.returns
+unfolding logs
+returns c = log-table
