@@ -8,8 +8,9 @@ use Rattle.gates.specs.Valid.{Valid}
 use Rattle.gates.proofs.Valid.{valid-of, n-fits}
 use Rattle.gates.proofs.Answers.{refused, passed, answered-to-6}
 use Rattle.gates.proofs.check_gate.Goals as goal
+use Rattle.gates.proofs.check_gate.Goals.{Else-params-ne0}
 
-valid : (c : goal.Else-params-ne0) → Valid c.args.a
+valid : (c : Else-params-ne0) → Valid c.args.a
 valid c = valid-of c.args.a c.params_gate-params.ensures c.if-params-ne0.false
 
 pub returns-then-params-ne0 : goal.returns-then-params-ne0

@@ -12,17 +12,18 @@ use Rattle.gates.specs.Valid.{Valid}
 use Rattle.gates.proofs.Valid.{valid-of, k-fits, n-fits, slack-fits}
 use Rattle.gates.proofs.Answers.{refused, passed, answered-to-6}
 use Rattle.gates.proofs.encode_gate.Goals as goal
+use Rattle.gates.proofs.encode_gate.Goals.{After-slack_parts, Else-params-ne0}
 
-valid : (c : goal.Else-params-ne0) → Valid c.args.a
+valid : (c : Else-params-ne0) → Valid c.args.a
 valid c = valid-of c.args.a c.params_gate-params.ensures c.if-params-ne0.false
 
 -- question 6, with the bytes of the slack
-abbrev lengths : goal.Else-params-ne0 → ℕ → Bool
+abbrev lengths : Else-params-ne0 → ℕ → Bool
 lengths c bytes =
     let s = c.args in
     eqb s.serials s.a.n && ((eqb s.message (s.a.k * s.a.b) && eqb s.slack bytes) && eqb s.codeword (s.a.n * s.a.b))
 
-slack-bytes : (c : goal.After-slack-parts)
+slack-bytes : (c : After-slack_parts)
     → let a = c.args.a in c.slack_parts.result * a.b ≡ slack_parts a * a.b
 slack-bytes c = ap (λ (x : ℕ). x * c.args.a.b) c.slack_parts.ensures
 
@@ -42,7 +43,7 @@ overflow_mul-a-2 c = n-fits (valid c.before.before.before.before.before)
 pub returns : goal.returns
 unfolding encode_gate
 returns c =
-    let e = c in
+    let e = c.before.before.before.before.before.before in
     let s = e.args in
     passed (params_asked s.a) (lengths_asked (lengths e (slack_parts s.a * s.a.b)) ∷ []) tt e.params_gate-params.ensures e.if-params-ne0.false
     (answered-to-6 (lengths e (slack_parts s.a * s.a.b)) (ap (lengths e) (slack-bytes c.before.before.before)) c.answers_gate.ensures)

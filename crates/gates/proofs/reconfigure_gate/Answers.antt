@@ -15,42 +15,43 @@ use Rattle.base.proofs.Questions.{first-zero}
 use Rattle.gates.proofs.Valid.{valid-of, shape-yes, k-fits, n-fits}
 use Rattle.gates.proofs.Answers.{refused, passed, answered-to-8, ten-more, at_most}
 use Rattle.gates.proofs.reconfigure_gate.Goals as goal
+use Rattle.gates.proofs.reconfigure_gate.Goals.{After-params_gate-old_shape, Else-new_shape-ne0, Else-old_shape-ne0, Then-new_shape-ne0}
 
 -- the answers to the questions 6, 7 and 8, and these questions
-abbrev lengths : goal.After-params-gate → Bool
+abbrev lengths : After-params_gate-old_shape → Bool
 lengths c =
     let s = c.args in
     (eqb s.serials s.a.n && eqb s.numbers s.t.n)
     && ((eqb s.old (s.a.n * s.a.b) && eqb s.new (s.t.n * s.a.b)) && eqb s.message (s.t.k * s.a.b))
 
-abbrev names : goal.After-params-gate → Bool
+abbrev names : After-params_gate-old_shape → Bool
 names c = let s = c.args in within s.a.n s.from.0 && within s.t.n s.to.0
 
-abbrev sizes : goal.After-params-gate → Bool
+abbrev sizes : After-params_gate-old_shape → Bool
 sizes c = let s = c.args in eqb (size s.from.0) s.a.r && eqb (size s.to.0) s.t.w
 
-abbrev rest : goal.After-params-gate → List Question
+abbrev rest : After-params_gate-old_shape → List Question
 rest c = lengths_asked (lengths c) ∷ names_asked (names c) ∷ sizes_asked (sizes c) ∷ []
 
 -- past the questions 1 to 5
-valid : (c : goal.Else-old_shape-ne0) → Valid c.args.a
+valid : (c : Else-old_shape-ne0) → Valid c.args.a
 valid c = valid-of c.args.a c.params_gate-old_shape.ensures c.if-old_shape-ne0.false
 
-onward : (c : goal.Else-old_shape-ne0) {g : ℕ}
+onward : (c : Else-old_shape-ne0) {g : ℕ}
     → let s = c.args in
-    g ≡ first_no (shape_asked 10 s.t ++ rest c) → g ≡ first_no (params_asked s.a ++ shape_asked 10 s.t ++ rest c)
+    g ≡ first_no (shape_asked 10 s.t ++ rest c.before.before) → g ≡ first_no (params_asked s.a ++ shape_asked 10 s.t ++ rest c.before.before)
 onward c e =
     let s = c.args in
-    passed (params_asked s.a) (shape_asked 10 s.t ++ rest c) tt c.params_gate-old_shape.ensures c.if-old_shape-ne0.false e
+    passed (params_asked s.a) (shape_asked 10 s.t ++ rest c.before.before) tt c.params_gate-old_shape.ensures c.if-old_shape-ne0.false e
 
 -- past the questions 11 to 14
-valid_new : (c : goal.Else-new_shape-ne0) → let s = c.args in Valid (reshaped s.a s.t)
+valid_new : (c : Else-new_shape-ne0) → let s = c.args in Valid (reshaped s.a s.t)
 valid_new c =
     let s = c.args in
     valid-of (reshaped s.a s.t) c.params_gate-new_shape.ensures c.if-new_shape-ne0.false
 
 -- the numbers 11 to 14
-numbered : (c : goal.Then-new_shape-ne0) → c.params_gate-new_shape.result + 10 ≡ first_no (shape_asked 10 c.args.t)
+numbered : (c : Then-new_shape-ne0) → c.params_gate-new_shape.result + 10 ≡ first_no (shape_asked 10 c.args.t)
 numbered c =
     let s = c.args in
     let t = s.t in
@@ -68,7 +69,7 @@ pub returns-then-old_shape-ne0 : goal.returns-then-old_shape-ne0
 unfolding reconfigure_gate
 returns-then-old_shape-ne0 c =
     let s = c.args in
-    refused (params_asked s.a) (shape_asked 10 s.t ++ rest c) c.params_gate-old_shape.ensures c.if-old_shape-ne0.true
+    refused (params_asked s.a) (shape_asked 10 s.t ++ rest c.before.before) c.params_gate-old_shape.ensures c.if-old_shape-ne0.true
 
 pub overflow_add-result : goal.overflow_add-result
 overflow_add-result c =
@@ -82,7 +83,7 @@ pub returns-then-new_shape-ne0 : goal.returns-then-new_shape-ne0
 unfolding reconfigure_gate
 returns-then-new_shape-ne0 c =
     let e = c.before in
-    onward e (refused (shape_asked 10 e.args.t) (rest e) (numbered c) (λ z. omega (arith, z)))
+    onward e (refused (shape_asked 10 e.args.t) (rest e.before.before) (numbered c) (λ z. omega (arith, z)))
 
 pub overflow_mul-a : goal.overflow_mul-a
 overflow_mul-a c = n-fits (valid c.before.before.before.before)
@@ -96,11 +97,11 @@ overflow_mul-t-2 c = k-fits (valid_new c.before.before.before.before.before.befo
 pub returns : goal.returns
 unfolding reconfigure_gate
 returns c =
-    let sized = c in
-    let named = sized in
-    let f = named in
-    let e = f in
-    let start = e in
+    let sized = c.before.before in
+    let named = sized.before.before.before in
+    let f = named.before.before.before.before.before.before.before.before.before in
+    let e = f.before in
+    let start = e.before.before in
     let s = start.args in
     onward e
     (passed (shape_asked 10 s.t) (rest start) tt (sym (first-zero (shape_asked 10 s.t) (shape-yes 10 s.t (valid_new f).shape tt))) refl
