@@ -1,6 +1,6 @@
-use mathlib.Core.Path.{◌≡◌, sym, ap, ◌∙◌}
+use mathlib.Core.Path.{sym, ap, ◌∙◌}
 use native.Mathlib.Omega.{arith}
-use lib.ListN.{length, drop, length-set, drop_of_length-le}
+use lib.ListN.{length-set, drop_of_length-le}
 use Rattle.season_lines.specs.Lines.{digits_before, decimal}
 use Rattle.season_lines.proofs.Backwards.{more_room, one_less, first-digit}
 use Rattle.season_lines.proofs.last_digits.Goals as goal

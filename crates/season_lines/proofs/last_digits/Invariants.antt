@@ -1,7 +1,7 @@
 -- What is left of the number is to be written before the digits that are there. Assumes nothing.
-use mathlib.Core.Path.{◌≡◌, sym, ap, ◌∙◌}
+use mathlib.Core.Path.{◌≡◌}
 use Prim.Native.Nat.{◌+◌, ◌^◌, ◌≤◌, ◌<◌}
-use lib.ListN.{length, drop, length-set, drop_of_length-le}
+use lib.ListN.{length, drop}
 use Rattle.season_lines.specs.Lines.{digits_before, decimal}
 use Rattle.season_lines.proofs.last_digits.Given as goal
 

@@ -1,8 +1,6 @@
-use mathlib.Core.Path.{◌≡◌, refl}
-use Prim.Native.Nat.{◌+◌, ◌-◌, ◌*◌, ◌≤◌}
+use mathlib.Core.Path.{refl}
 use native.Mathlib.Omega.{arith}
-use lib.ListN.{length, take, length-set}
-use Rattle.season_lines.specs.Lines.{hex}
+use lib.ListN.{length-set}
 use Rattle.season_lines.proofs.Texts.{hex-start, hex-next, hex-whole}
 use Rattle.season_lines.proofs.put_hex.Goals as goal
 
@@ -17,18 +15,17 @@ bounds-line-next-in-loop-i c =
     simp length-set (omega (arith, c.requires, c.loop-i.invariant.1.0, c.loop-i.invariant.1.1.0))
 
 pub loop-i-preserved : goal.loop-i-preserved
-loop-i-preserved c = let l = c.loop-i in
+loop-i-preserved c = let l = c.loop-i in (
+  omega arith,
+  (
+    omega (arith, l.invariant.1.0),
     (
-      omega arith,
-      (
-        omega (arith, l.invariant.1.0),
-        (
-          simp length-set l.invariant.1.1.0,
-          hex-next _ _ _ l.i _ _ _ _ (omega (arith, c.requires)) (omega (arith, c.requires, l.invariant.1.0, l.invariant.1.1.0)) (omega arith)
-              c.hex_digit.ensures c.hex_digit-in-loop-i.ensures l.invariant.1.1.1,
-        ),
-      ),
-    )
+      simp length-set l.invariant.1.1.0,
+      hex-next _ _ _ l.i _ _ _ _ (omega (arith, c.requires)) (omega (arith, c.requires, l.invariant.1.0, l.invariant.1.1.0)) (omega arith)
+          c.hex_digit.ensures c.hex_digit-in-loop-i.ensures l.invariant.1.1.1,
+    ),
+  ),
+)
 
 pub returns : goal.returns
 returns c = hex-whole _ _ _ c.loop-i.i _ _ (omega arith) c.loop-i.invariant.1.1.1

@@ -1,7 +1,7 @@
 -- After i turns the digits of the first i bytes are put. Assumes nothing.
-use mathlib.Core.Path.{◌≡◌, refl}
+use mathlib.Core.Path.{◌≡◌}
 use Prim.Native.Nat.{◌+◌, ◌-◌, ◌*◌, ◌≤◌}
-use lib.ListN.{length, take, length-set}
+use lib.ListN.{length, take}
 use Rattle.season_lines.specs.Lines.{hex}
 use Rattle.season_lines.specs.Writing.{TextAt}
 use Rattle.season_lines.proofs.put_hex.Given as goal
