@@ -1,0 +1,24 @@
+use mathlib.Core.Path.{◌≡◌, refl}
+use Prim.Native.Nat.{◌*◌, ◌-◌, ◌≤◌}
+use native.Mathlib.Omega.{arith}
+use lib.ListN.{length, length-set, get_or}
+use Rattle.field.specs.Field.{add}
+use Rattle.matrix.proofs.Rewriting.{rewritten-none, rewritten-more, rewritten-all, added-entry}
+use Rattle.matrix.proofs.add_multiple.Goals as goal
+
+pub loop-k-init : goal.loop-k-init
+loop-k-init c = (omega arith, refl, rewritten-none _ _ _)
+
+pub loop-k-preserved : goal.loop-k-preserved
+unfolding add
+loop-k-preserved c =
+    let l = c in (
+      omega arith,
+      simp length-set (omega arith),
+      rewritten-more _ _ _ l.loop-k.k _ _ (omega arith)
+          (added-entry _ _ l.loop-k.k c.times.result _ _ _ (λ k. get_or l.args.row.now k 0) l.loop-k.invariant.2 c.times.ensures)
+          l.loop-k.invariant.2,
+    )
+
+pub returns : goal.returns
+returns c = rewritten-all _ _ (omega arith) (omega arith) c.loop-k.invariant.2

@@ -1,0 +1,36 @@
+use mathlib.Core.Path.{◌≡◌, refl, subst}
+use Prim.Native.Nat.{◌-◌, ◌≤◌}
+use native.Mathlib.Omega.{arith}
+use borrow.Author.Rules.{rules}
+use Rattle.matrix.specs.Working.{Reduced, Found}
+use Rattle.matrix.proofs.RowOperations.{reduced-none, reduced-then, reduced-less}
+use Rattle.matrix.proofs.eliminate.Goals as goal
+
+pub loop-j-init : goal.loop-j-init
+loop-j-init c = (omega arith, refl, reduced-none _ _ 0 (λ i k hi hk. omega arith), λ i. omega (arith, c.slice_known-1.given i))
+
+pub returns-in_default : goal.returns-in_default
+returns-in_default c =
+    let f = c in
+    record {
+      within = omega arith;
+      reduced = f.loop-j.invariant.2;
+      missing = subst (Found _ _ _) c.in_default.is f.find_pivot.ensures;
+      bytes = f.loop-j.invariant.3;
+    }
+
+pub reduce-requires : goal.reduce-requires
+reduce-requires c =
+    let f = c in (
+      search rules,
+      f.loop-j.invariant.2.units,
+      c.in-At.ensures,
+    )
+
+pub loop-j-preserved : goal.loop-j-preserved
+loop-j-preserved c =
+    let f = c in
+    (omega arith, search rules, reduced-then _ _ _ _ _ _ f.loop-j.invariant.2 c.reduce.ensures, λ i. omega (arith, c.slice_known-in-loop-j-1.given i))
+
+pub returns : goal.returns
+returns c = reduced-less _ _ _ _ _ (omega arith) c.loop-j.invariant.2
