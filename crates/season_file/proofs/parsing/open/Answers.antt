@@ -30,5 +30,5 @@ returns-then-input-events_at c = let t = c in
 pub returns : goal.returns
 returns c = let t = c in
     opened _ t.if-input-lt2.false (sym t.number_at.ensures.0 ∙ t.if-number_at-ne5.false) _ _ _ _
-    c.params_at_lem.ensures c.number_at-message.ensures.0 c.number_at-slack.ensures.0 c.number_at-2.ensures.0
+    c.params_at.ensures c.number_at-message.ensures.0 c.number_at-slack.ensures.0 c.number_at-2.ensures.0
     (omega (arith, c.if-input-events_at.false))
