@@ -1,6 +1,6 @@
 -- After j turns the first j entries are one less than the list's. Assumes nothing.
-use Prim.Native.Nat.{ℕ, ◌-◌, ◌^◌, ◌≤◌, ◌<◌}
-use lib.ListN.{length, get_or}
+use Prim.Native.Nat.{◌-◌, ◌≤◌}
+use lib.ListN.{get_or}
 use Rattle.base.specs.Parts.{Filled}
 use Rattle.block_numbers.proofs.places_of.Given as goal
 

@@ -1,7 +1,7 @@
 -- After `at` turns so many nodes are done, and their bits are gone from the rest. Assumes nothing.
-use mathlib.Core.Path.{◌≡◌, refl, sym, ap₂, ◌∙◌}
-use mathlib.Core.Bool.{Bool, cond}
-use Prim.Native.Nat.{ℕ, suc, ◌-◌, ◌/◌, ◌^◌, ◌≤◌}
+use mathlib.Core.Path.{◌≡◌}
+use mathlib.Core.Bool.{cond}
+use Prim.Native.Nat.{suc, ◌-◌, ◌/◌, ◌^◌, ◌≤◌}
 use lib.ListN.{length, get_or}
 use Rattle.base.specs.Parts.{Filled}
 use Rattle.params.specs.Nodes.{has}

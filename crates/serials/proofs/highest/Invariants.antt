@@ -1,7 +1,7 @@
 -- After `at` turns `most` is the highest of so many nodes, and their bits are gone from the rest. Assumes nothing.
-use mathlib.Core.Path.{◌≡◌, refl, sym, ap, ap₂, ◌∙◌}
-use Prim.Native.Nat.{◌-◌, ◌/◌, ◌^◌, ◌≤◌, max}
-use lib.ListN.{length, get_or}
+use mathlib.Core.Path.{◌≡◌}
+use Prim.Native.Nat.{◌-◌, ◌/◌, ◌^◌, ◌≤◌}
+use lib.ListN.{length}
 use Rattle.params.specs.Nodes.{has}
 use Rattle.serials.specs.Serials.{highest}
 use Rattle.serials.proofs.highest.Given as goal

@@ -2,7 +2,7 @@ use Prim.Native.Nat.{◌-◌}
 use native.Mathlib.Omega.{arith}
 use lib.Dec.{ltb}
 use lib.ListN.{get_or}
-use Rattle.serials.proofs.Laws.{Older, older-none, older-fits, older-more, older-all, bit_le}
+use Rattle.serials.proofs.Laws.{older-none, older-fits, older-more, older-all, bit_le}
 use Rattle.serials.proofs.older.Goals as goal
 
 pub loop-at-init : goal.loop-at-init

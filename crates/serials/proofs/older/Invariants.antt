@@ -1,6 +1,5 @@
 -- The word has a bit for each node from `at` + 1 on. Assumes nothing.
-use Prim.Native.Nat.{◌-◌}
-use Rattle.serials.proofs.Laws.{Older, older-none, older-fits, older-more, older-all, bit_le}
+use Rattle.serials.proofs.Laws.{Older}
 use Rattle.serials.proofs.older.Given as goal
 
 abbrev pub invariant-loop-at : goal.invariant-loop-at
