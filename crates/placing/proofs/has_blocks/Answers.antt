@@ -4,14 +4,12 @@ use mathlib.Core.Bool.{Bool, true, false, true≢false}
 use Prim.Native.Nat.{ℕ, zero, suc, ◌+◌, ◌*◌, ◌/◌, ◌^◌, ◌≤◌, ◌<◌}
 use native.Mathlib.Nat.{suc-mul, le-div_iff_mul-le}
 use native.Mathlib.Omega.{arith}
-use borrow.Author.Rules.{rules}
 use Rattle.params.specs.Nodes.{has, within}
 use Rattle.params.proofs.Sets.{within_has}
 use Rattle.base.specs.Decided.{Decided}
 use Rattle.base.proofs.Decisions.{decided-false}
 use Rattle.placing.specs.Placed.{BlocksIn}
-use Rattle.placing.proofs.has_blocks.Statement.{statement}
-use Rattle.placing.proofs.has_blocks.Tie as tie
+use Rattle.placing.proofs.has_blocks.Goals as goal
 
 empty : (b set length : ℕ) → b ≡ 0 → Decided (BlocksIn b set length) false
 empty b set length e = decided-false _ (λ h. omega (arith, h.0))
@@ -29,17 +27,8 @@ told b set length answer some word is =
     bound zero hi all = omega arith
     bound (suc j) hi all = (le-div_iff_mul-le some).1 (omega (arith, all j hi, suc-mul j b))
 
-returns : tie.Need-returns
-returns c = empty _ _ _ c.if1.true
+pub returns-then-b-eq0 : goal.returns-then-b-eq0
+returns-then-b-eq0 c = empty _ _ _ c.if-b-eq0.true
 
-div-within : tie.Need-nonzero-div-within
-div-within c = search rules
-
-within-requires : tie.Need-within-requires
-within-requires c κs = search rules
-
-returns-2 : tie.Need-returns-2
-returns-2 c = told _ _ _ _ (omega arith) (omega arith) c.within.ensures
-
-pub has-blocks-spec : {M : Type 1} → statement M
-has-blocks-spec = tie.close (tie.spec returns div-within within-requires returns-2)
+pub returns : goal.returns
+returns c = told _ _ _ _ (omega arith) (omega arith) c.within.ensures
