@@ -3,30 +3,27 @@ use mathlib.Core.Path.{◌≡◌, ◌∙◌}
 use Prim.Native.Nat.{◌+◌, ◌-◌}
 use native.Mathlib.Omega.{arith}
 use lib.ListN.{length}
-use Rattle.season_file.specs.File.{fixed, following}
+use Rattle.season_file.specs.File.{following}
 use Rattle.season_file.proofs.Items.{early, late, whole}
 use Rattle.season_file.proofs.Capped.{capped-within}
 use Rattle.season_file.proofs.parsing.fields_at.Goals as goal
 
 pub returns-then-input-at : goal.returns-then-input-at
-returns-then-input-at c = let s = c in
-    let a = s.args in
-    c.faulty.ensures ∙ early a.a a.input.now a.at a.kind (omega (arith, s.requires)) (omega (arith, c.if-input-at.true, c.fixed-count.ensures))
+returns-then-input-at c = let a = c.args in
+    c.faulty.ensures ∙ early a.a a.input.now a.at a.kind (omega (arith, c.requires)) (omega (arith, c.if-input-at.true, c.fixed-count.ensures))
 
 pub returns-then-input-start : goal.returns-then-input-start
-returns-then-input-start c = let s = c in
-    let a = s.args in
+returns-then-input-start c = let a = c.args in
     c.faulty-then-input-start.ensures
-    ∙ late a.a a.input.now a.at a.kind (omega (arith, s.requires, c.if-input-at.false, c.fixed-count.ensures))
+    ∙ late a.a a.input.now a.at a.kind (omega (arith, c.requires, c.if-input-at.false, c.fixed-count.ensures))
     (omega (arith, c.if-input-start.true, c.following-blocks.ensures, c.fixed-count.ensures))
 
 pub returns : goal.returns
-returns c = let s = c in
-    let a = s.args in
+returns c = let a = c.args in
     let count : c.following-blocks.result ≡ following a.a a.input.now a.at a.kind
     = c.following-blocks.ensures
     ∙ capped-within (following a.a a.input.now a.at a.kind) (length a.input.now - (a.at + c.fixed-count.result))
-    (omega (arith, s.requires)) (omega (arith, c.if-input-start.false, c.following-blocks.ensures)) in
+    (omega (arith, c.requires)) (omega (arith, c.if-input-start.false, c.following-blocks.ensures)) in
     whole a.a a.input.now a.at a.kind _ _ (c.event_at.ensures a.a count)
     (omega (arith, count, c.fixed-count.ensures))
-    (omega (arith, c.if-input-start.false, c.if-input-at.false, s.requires))
+    (omega (arith, c.if-input-start.false, c.if-input-at.false, c.requires))

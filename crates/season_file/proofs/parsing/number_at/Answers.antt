@@ -6,11 +6,10 @@ use borrow.Author.Rules.{rules}
 use Rattle.season_file.proofs.parsing.number_at.Goals as goal
 
 small : (c : goal.After-wide-low) → (c.wide-high.result < 256) × (c.wide-low.result < 256)
-small c =
-    (
-      omega (arith, c.shared_slice_known-1.given c.args.at, c.wide-high.ensures),
-      omega (arith, c.shared_slice_known-1.given (c.args.at + 1), c.wide-low.ensures),
-    )
+small c = (
+  omega (arith, c.shared_slice_known-1.given c.args.at, c.wide-high.ensures),
+  omega (arith, c.shared_slice_known-1.given (c.args.at + 1), c.wide-low.ensures),
+)
 
 pub overflow_mul-result : goal.overflow_mul-result
 overflow_mul-result c = record { fits = omega (arith, (small c).0, (small c).1) }

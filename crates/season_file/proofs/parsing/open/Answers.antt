@@ -16,19 +16,16 @@ pub returns-then-input-lt14 : goal.returns-then-input-lt14
 returns-then-input-lt14 c = cut _ c.if-input-lt2.false (sym c.number_at.ensures.0 ∙ c.if-number_at-ne5.false) (omega (arith, c.if-input-lt14.true))
 
 pub returns-then-input-slack_at : goal.returns-then-input-slack_at
-returns-then-input-slack_at c = let t = c in
-    cut _ t.if-input-lt2.false (sym t.number_at.ensures.0 ∙ t.if-number_at-ne5.false)
+returns-then-input-slack_at c = cut _ c.if-input-lt2.false (sym c.number_at.ensures.0 ∙ c.if-number_at-ne5.false)
     (omega (arith, c.if-input-slack_at.true, c.number_at-message.ensures.0))
 
 pub returns-then-input-events_at : goal.returns-then-input-events_at
-returns-then-input-events_at c = let t = c in
-    let i = t.args.input.now in
+returns-then-input-events_at c = let i = c.args.input.now in
     let m = c.number_at-message.ensures.0 in
-    cut _ t.if-input-lt2.false (sym t.number_at.ensures.0 ∙ t.if-number_at-ne5.false)
+    cut _ c.if-input-lt2.false (sym c.number_at.ensures.0 ∙ c.if-number_at-ne5.false)
     (omega (arith, c.if-input-events_at.true, m, c.number_at-slack.ensures.0 ∙ ap (λ (k : ℕ). number_at i (14 + k)) m))
 
 pub returns : goal.returns
-returns c = let t = c in
-    opened _ t.if-input-lt2.false (sym t.number_at.ensures.0 ∙ t.if-number_at-ne5.false) _ _ _ _
+returns c = opened _ c.if-input-lt2.false (sym c.number_at.ensures.0 ∙ c.if-number_at-ne5.false) _ _ _ _
     c.params_at.ensures c.number_at-message.ensures.0 c.number_at-slack.ensures.0 c.number_at-2.ensures.0
     (omega (arith, c.if-input-events_at.false))
