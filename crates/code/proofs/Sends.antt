@@ -191,9 +191,9 @@ send-still a ok d to serial c old s new s₁ full many high (u, x) =
 -- ---- any number of sends
 
 -- After an accepted send the same change is accepted again: the lengths are as they were.
-pub send-accepted : {a : Params} {d : List ℕ} {to serial reached : ℕ} {old s new s₁ : List ℕ} → UpdatePost a d to serial reached old s 0 new s₁
+pub send-accepted : {a : Params} {d : List ℕ} {to serial : ℕ} (reached : ℕ) {old s new s₁ : List ℕ} → UpdatePost a d to serial reached old s 0 new s₁
     → update_gate a (length new) (length s₁) (length d) to serial ≡ 0
-send-accepted {a} {d} {to} {serial} post =
+send-accepted {a} {d} {to} {serial} reached post =
     let g = (update-accepted a _ _ _ to serial).0 (sym post.number) in
     let t = post.served refl in
     (update-accepted a _ _ _ to serial).1

@@ -13,12 +13,12 @@ use Rattle.base.specs.Seq.{cell, one}
 use Rattle.base.proofs.Below.{all-below}
 use Rattle.base.proofs.Questions.{both-known}
 use Rattle.field.specs.Field.{Bytes}
-use Rattle.params.specs.Nodes.{has, size, within, count, lowest, Behind}
+use Rattle.params.specs.Nodes.{has, size, within, count, lowest}
 use Rattle.params.specs.Params.{working}
 use Rattle.params.specs.declared.Params.{Params}
 use Rattle.params.proofs.Sets.{count-not, range-yes, within-size}
 use Rattle.params.proofs.Lowest.{count-lowest, lowest-passes}
-use Rattle.params.proofs.Behind.{behind-exists, behind-size}
+use Rattle.params.proofs.Behind.{Behind, behind-exists, behind-size}
 use Rattle.gates.specs.Valid.{Valid}
 use Rattle.gates.proofs.Valid.{working-le}
 use Rattle.subsets.specs.Order.{Next}
