@@ -1,5 +1,4 @@
 use mathlib.Core.Path.{refl, ap₂}
-use Prim.Native.Nat.{◌-◌, ◌≤◌}
 use native.Mathlib.Omega.{arith}
 use lib.Bits.{bit_xor}
 use Rattle.base.proofs.Filled.{filled_none, filled_more}

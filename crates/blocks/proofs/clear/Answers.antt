@@ -1,5 +1,4 @@
 use mathlib.Core.Path.{refl, ◌∙◌}
-use Prim.Native.Nat.{◌-◌, ◌≤◌}
 use native.Mathlib.Omega.{arith}
 use Rattle.base.proofs.Filled.{filled_none, filled_more, filled-all}
 use Rattle.base.proofs.Seq.{tabulate-zeros}

@@ -1,4 +1,3 @@
-use Prim.Native.Nat.{◌-◌, ◌≤◌}
 use native.Mathlib.Omega.{arith}
 use Rattle.base.proofs.Filled.{filled_none, filled_more}
 use Rattle.blocks.proofs.Laws.{get_d_default}

@@ -1,5 +1,5 @@
 -- After p turns the first p bytes are equal. Blocks of other lengths differ. Assumes nothing.
-use mathlib.Core.Path.{◌≡◌, sym, ap}
+use mathlib.Core.Path.{◌≡◌}
 use Prim.Native.Nat.{ℕ, ◌-◌, ◌≤◌, ◌<◌}
 use lib.ListN.{length, get_or}
 use Rattle.blocks.proofs.differs.Given as goal

@@ -1,11 +1,7 @@
-use mathlib.Core.Path.{◌≡◌, refl}
-use Prim.Native.Nat.{◌+◌, ◌-◌, ◌%◌, ◌≤◌}
+use mathlib.Core.Path.{refl}
+use Prim.Native.Nat.{◌+◌, ◌-◌}
 use native.Mathlib.Omega.{arith}
-use borrow.Rule.Slice.PartMut.{put_mid}
-use lib.ListN.{get_or}
-use Rattle.base.specs.Parts.{Filled}
 use Rattle.base.proofs.Filled.{filled_none}
-use Rattle.field.specs.Field.{add}
 use Rattle.blocks.proofs.Overlap.{filled-plus}
 use Rattle.words.proofs.Adding.{added-part}
 use Rattle.words.proofs.add_words.Goals as goal

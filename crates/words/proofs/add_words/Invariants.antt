@@ -1,6 +1,6 @@
 -- When p bytes are done, p a multiple of eight, the first p are the sums, the others as they were; at the end fewer than eight are left. Assumes nothing.
-use mathlib.Core.Path.{◌≡◌, refl}
-use Prim.Native.Nat.{◌+◌, ◌-◌, ◌%◌, ◌≤◌}
+use mathlib.Core.Path.{◌≡◌}
+use Prim.Native.Nat.{◌-◌, ◌%◌, ◌≤◌}
 use lib.ListN.{get_or}
 use Rattle.base.specs.Parts.{Filled}
 use Rattle.field.specs.Field.{add}

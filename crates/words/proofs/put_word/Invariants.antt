@@ -1,6 +1,6 @@
 -- After s turns the first s bytes are written, and what is left of the word begins with the next. Assumes nothing.
-use mathlib.Core.Path.{◌≡◌, ap, ◌∙◌}
-use Prim.Native.Nat.{ℕ, ◌-◌, ◌/◌, ◌%◌, ◌^◌, ◌≤◌}
+use mathlib.Core.Path.{◌≡◌}
+use Prim.Native.Nat.{◌-◌, ◌/◌, ◌%◌, ◌^◌, ◌≤◌}
 use lib.ListN.{length}
 use Rattle.base.specs.Parts.{Filled}
 use Rattle.words.proofs.put_word.Given as goal

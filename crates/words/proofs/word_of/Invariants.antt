@@ -1,8 +1,8 @@
 -- The bytes are read from the last to the first: after s turns the word has the last s. Assumes nothing.
-use mathlib.Core.Path.{◌≡◌, ap, ◌∙◌}
-use Prim.Native.Nat.{ℕ, ◌+◌, ◌-◌, ◌*◌, ◌^◌, ◌≤◌}
+use mathlib.Core.Path.{◌≡◌}
+use Prim.Native.Nat.{◌-◌, ◌≤◌}
 use Rattle.words.specs.Words.{word as wordFrom}
-use Rattle.words.proofs.Words.{last, word_none, word_more, word-all, word_room}
+use Rattle.words.proofs.Words.{last}
 use Rattle.words.proofs.word_of.Given as goal
 
 abbrev pub invariant-loop-s : goal.invariant-loop-s
