@@ -18,6 +18,7 @@ lacks m [] = true
 lacks m (x ∷ l) = not (eqb m x) && lacks m l
 
 apart : (m q : ℕ) (l : List ℕ) → Memᴰ q l → T (lacks m l) → q ≡ m → ⊥
+apart m q [] k t e = elim k [ ]
 apart m q (x ∷ l) (Memᴰ.head h) t e = here (eqb m x) (eq-eqb m x (sym e ∙ h)) t
   where
     here : (b : Bool) → b ≡ true → T (not b && lacks m l) → ⊥

@@ -1,0 +1,22 @@
+-- Valid parameters have small numbers, and check accepts a record of their length. Assumes nothing.
+use mathlib.Core.Logic.{inl, inr}
+use mathlib.Core.Path.{refl, sym, ◌∙◌}
+use native.Mathlib.Omega.{arith}
+use Rattle.gates.proofs.Valid.{check-accepted, blocks-most}
+use Rattle.season_answers.proofs.record_length.Goals as goal
+
+pub returns-then-a-gt32 : goal.returns-then-a-gt32
+returns-then-a-gt32 c = inr (λ v. omega (arith, v.shape.n_high), refl)
+
+pub returns-then-a-gt1024 : goal.returns-then-a-gt1024
+returns-then-a-gt1024 c = inr (λ v. omega (arith, v.b_high), refl)
+
+pub overflow_mul-length : goal.overflow_mul-length
+overflow_mul-length c =
+    let a = c.args.a in omega (arith, blocks-most a.n a.b (omega arith) (omega arith))
+
+pub returns-then-check_gate-ne0 : goal.returns-then-check_gate-ne0
+returns-then-check_gate-ne0 c = inr (λ v. c.if-check_gate-ne0.true (c.check_gate.ensures ∙ (check-accepted _ _).1 (record { valid = v; codeword_length = refl })), refl)
+
+pub returns : goal.returns
+returns c = inl (((check-accepted _ _).0 (sym c.check_gate.ensures ∙ c.if-check_gate-ne0.false)).valid, refl)
