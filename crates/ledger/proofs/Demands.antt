@@ -66,7 +66,7 @@ pub record Demand1 : Type 0 where
       → Told (decode_gate a (length codeword) (length old) from) answer old new
   pub difference : {a : Params} {d old new : List ℕ} {to answer : ℕ} → DeltaPost a d to old answer new
       → Told (delta_gate a (length d) (length old) to) answer old new
-  pub change : {a : Params} {d old serials new serials' : List ℕ} {to serial reached answer : ℕ}
+  pub change : {a : Params} {d old serials new serials' : List ℕ} {to serial answer : ℕ} (reached : ℕ)
       → UpdatePost a d to serial reached old serials answer new serials'
       → BothTold (update_gate a (length old) (length serials) (length d) to serial) answer old serials new serials'
   pub rebuild : {a : Params} {old serials new serials' : List ℕ} {from lost answer : ℕ} → RepairPost a from lost old serials answer new serials'
@@ -87,7 +87,7 @@ demand-1 =
       set_up = both_told;
       reading = told;
       difference = told;
-      change = both_told;
+      change = λ reached. both_told;
       rebuild = both_told;
       rearrangement = both_told;
       check = check-number;
@@ -339,9 +339,9 @@ demand-3-reading y from buffer out post undamaged closed =
 
 -- "Whichever traps had it before the drop, sending the same change to all w again, with nothing else written between, must give the record of one whole change"
 -- (document 02, 2026-03). A change that was accepted is accepted again; ..
-pub broken-send-accepted : {a : Params} {d old serials new serials₁ : List ℕ} {to serial reached : ℕ}
+pub broken-send-accepted : {a : Params} {d old serials new serials₁ : List ℕ} {to serial : ℕ} (reached : ℕ)
     → UpdatePost a d to serial reached old serials 0 new serials₁ → update_gate a (length new) (length serials₁) (length d) to serial ≡ 0
-broken-send-accepted = send-accepted
+broken-send-accepted reached post = send-accepted reached post
 
 -- .. before it there may have been no send, or any such sends and one more, whichever nodes that one reaches (Sendings); ..
 pub broken-send-none : {a : Params} {d old serials : List ℕ} {to serial : ℕ}

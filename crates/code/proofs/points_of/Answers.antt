@@ -1,7 +1,7 @@
 use mathlib.Core.Path.{ap, ◌∙◌}
-use Prim.Native.Nat.{◌-◌, ◌^◌, ◌≤◌, ◌<◌}
+use Prim.Native.Nat.{◌<◌}
 use native.Mathlib.Omega.{arith}
-use lib.ListN.{length, get_or}
+use lib.ListN.{length}
 use Rattle.base.proofs.Filled.{filled_none, filled_more}
 use Rattle.params.proofs.Placing.{node-inside}
 use Rattle.code.specs.Code.{point}
@@ -23,7 +23,7 @@ pub loop-j-preserved : goal.loop-j-preserved
 loop-j-preserved c =
     let l = c.loop-j in
     let inside : l.j < length l.out =
-        omega (arith, l.invariant.1.same, c.list-count.auto.out, node-inside _ (omega arith) _ _ _ c.list-count.ensures l.j c.loop-j-test.true) in
+    omega (arith, l.invariant.1.same, c.list-count.auto.out, node-inside _ (omega arith) _ _ _ c.list-count.ensures l.j c.loop-j-test.true) in
     (omega arith, filled_more _ l.j _ l.out _ inside (c.point.ensures ∙ ap point (l.invariant.1.rest l.j (omega arith))) l.invariant.1)
 
 pub shape_of-out : goal.shape_of-out

@@ -1,6 +1,6 @@
 -- After j turns the first j entries are the points of the list's nodes. Assumes nothing.
-use Prim.Native.Nat.{◌-◌, ◌^◌, ◌≤◌, ◌<◌}
-use lib.ListN.{length, get_or}
+use Prim.Native.Nat.{◌-◌, ◌≤◌}
+use lib.ListN.{get_or}
 use Rattle.base.specs.Parts.{Filled}
 use Rattle.code.specs.Code.{point}
 use Rattle.code.proofs.points_of.Given as goal
