@@ -8,7 +8,7 @@ pub loop-i-init : goal.loop-i-init
 loop-i-init c = (omega arith, (omega arith, (refl, hex-start c.args.message.now _ _)))
 
 pub hex_digit-requires : goal.hex_digit-requires
-hex_digit-requires c = omega (arith, c.shared_slice_known-1.given c.loop-i.i)
+hex_digit-requires c = omega (arith, c.type_inv.message c.loop-i.i)
 
 pub bounds-line-next-in-loop-i : goal.bounds-line-next-in-loop-i
 bounds-line-next-in-loop-i c =

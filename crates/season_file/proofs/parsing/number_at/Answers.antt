@@ -7,8 +7,8 @@ use Rattle.season_file.proofs.parsing.number_at.Goals as goal
 
 small : (c : goal.After-wide-low) → (c.wide-high.result < 256) × (c.wide-low.result < 256)
 small c = (
-  omega (arith, c.shared_slice_known-1.given c.args.at, c.wide-high.ensures),
-  omega (arith, c.shared_slice_known-1.given (c.args.at + 1), c.wide-low.ensures),
+  omega (arith, c.type_inv.input c.args.at, c.wide-high.ensures),
+  omega (arith, c.type_inv.input (c.args.at + 1), c.wide-low.ensures),
 )
 
 pub overflow_mul-result : goal.overflow_mul-result
