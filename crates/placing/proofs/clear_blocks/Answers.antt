@@ -1,13 +1,12 @@
-use Prim.Native.Nat.{ℕ, ◌+◌, ◌-◌, ◌*◌, ◌^◌, ◌≤◌, ◌<◌}
+use Prim.Native.Nat.{ℕ, ◌^◌, ◌<◌}
 use mathlib.Core.Path.{◌≡◌}
 use mathlib.Core.List.{List}
 use native.Mathlib.Omega.{arith}
-use lib.ListN.{length, replicate}
+use lib.ListN.{replicate}
 use Rattle.params.specs.Nodes.{size, Placing}
 use Rattle.params.proofs.Sets.{size-most}
 use Rattle.params.proofs.Placing.{Listed, placing-zeros}
-use Rattle.placing.specs.Placed.{BlocksIn}
-use Rattle.placing.proofs.Turns.{block-ends, Written, written_none, clear-turn, clear-done, clear-idle}
+use Rattle.placing.proofs.Turns.{block-ends, written_none, clear-turn, clear-done, clear-idle}
 use Rattle.placing.proofs.clear_blocks.Goals as goal
 
 pub returns-then-not-has_blocks : goal.returns-then-not-has_blocks

@@ -1,9 +1,9 @@
 -- After i turns the first i nodes' blocks are 00, and the blocks outside the set are as they were. Assumes nothing.
-use Prim.Native.Nat.{ℕ, ◌+◌, ◌-◌, ◌*◌, ◌^◌, ◌≤◌, ◌<◌}
+use Prim.Native.Nat.{ℕ, ◌-◌}
 use lib.ListN.{length}
-use Rattle.params.proofs.Placing.{Listed, placing-zeros}
+use Rattle.params.proofs.Placing.{Listed}
 use Rattle.placing.specs.Placed.{BlocksIn}
-use Rattle.placing.proofs.Turns.{block-ends, Written, written_none, clear-turn, clear-done, clear-idle}
+use Rattle.placing.proofs.Turns.{Written}
 use Rattle.placing.proofs.clear_blocks.Given as goal
 
 abbrev pub invariant-loop-i : goal.invariant-loop-i

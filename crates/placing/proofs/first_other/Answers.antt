@@ -1,13 +1,10 @@
-use Prim.Native.Nat.{ℕ, ◌+◌, ◌-◌, ◌*◌, ◌≤◌, ◌<◌}
 use mathlib.Core.Path.{ap}
 use mathlib.Core.Bool.{not}
 use native.Mathlib.Omega.{arith}
-use lib.ListN.{length}
-use Rattle.params.specs.Nodes.{size}
 use Rattle.params.proofs.Sets.{size-most, has-le}
 use Rattle.params.proofs.Placing.{at_node}
-use Rattle.placing.proofs.Turns.{Placeable, no_room, placeable, turn-ends}
-use Rattle.placing.proofs.Comparing.{Passed, passed_none, passed-more, passed-all, found, compare-idle}
+use Rattle.placing.proofs.Turns.{no_room, placeable, turn-ends}
+use Rattle.placing.proofs.Comparing.{passed_none, passed-more, passed-all, found, compare-idle}
 use Rattle.placing.proofs.first_other.Goals as goal
 
 pub returns-then-not-is_product : goal.returns-then-not-is_product
@@ -23,56 +20,56 @@ loop-i-init c set k = passed_none _ _ _ _
 pub bounds-places-i : goal.bounds-places-i
 bounds-places-i c =
     let k = placeable _ c.args.set.0 _ _ _ _ c.size-count.ensures c.is_product.ensures (ap not c.if-not-is_product.false) _ c.has_blocks.ensures
-        (ap not c.if-not-has_blocks.false) (omega arith) _ c.places_of.ensures in
+    (ap not c.if-not-has_blocks.false) (omega arith) _ c.places_of.ensures in
     omega (arith, size-most _ k.listed.word, k.listed.count_is)
 
 -- the two blocks end within their lists
 pub overflow_mul-at : goal.overflow_mul-at
 overflow_mul-at c =
     let k = placeable _ c.args.set.0 _ _ _ _ c.size-count.ensures c.is_product.ensures (ap not c.if-not-is_product.false) _ c.has_blocks.ensures
-        (ap not c.if-not-has_blocks.false) (omega arith) _ c.places_of.ensures in
+    (ap not c.if-not-has_blocks.false) (omega arith) _ c.places_of.ensures in
     omega (arith, (turn-ends _ _ _ _ _ _ k c.loop-i.i _ (omega arith) c.wide.ensures).0)
 
 pub overflow_add-end : goal.overflow_add-end
 overflow_add-end c =
     let k = placeable _ c.args.set.0 _ _ _ _ c.size-count.ensures c.is_product.ensures (ap not c.if-not-is_product.false) _ c.has_blocks.ensures
-        (ap not c.if-not-has_blocks.false) (omega arith) _ c.places_of.ensures in
+    (ap not c.if-not-has_blocks.false) (omega arith) _ c.places_of.ensures in
     omega (arith, (turn-ends _ _ _ _ _ _ k c.loop-i.i _ (omega arith) c.wide.ensures).0)
 
 pub overflow_mul-start : goal.overflow_mul-start
 overflow_mul-start c =
     let k = placeable _ c.args.set.0 _ _ _ _ c.size-count.ensures c.is_product.ensures (ap not c.if-not-is_product.false) _ c.has_blocks.ensures
-        (ap not c.if-not-has_blocks.false) (omega arith) _ c.places_of.ensures in
+    (ap not c.if-not-has_blocks.false) (omega arith) _ c.places_of.ensures in
     omega (arith, (turn-ends _ _ _ _ _ _ k c.loop-i.i _ (omega arith) c.wide.ensures).1)
 
 pub overflow_add-stop : goal.overflow_add-stop
 overflow_add-stop c =
     let k = placeable _ c.args.set.0 _ _ _ _ c.size-count.ensures c.is_product.ensures (ap not c.if-not-is_product.false) _ c.has_blocks.ensures
-        (ap not c.if-not-has_blocks.false) (omega arith) _ c.places_of.ensures in
+    (ap not c.if-not-has_blocks.false) (omega arith) _ c.places_of.ensures in
     omega (arith, (turn-ends _ _ _ _ _ _ k c.loop-i.i _ (omega arith) c.wide.ensures).1)
 
 pub slice_bounds-differs-end : goal.slice_bounds-differs-end
 slice_bounds-differs-end c =
     let k = placeable _ c.args.set.0 _ _ _ _ c.size-count.ensures c.is_product.ensures (ap not c.if-not-is_product.false) _ c.has_blocks.ensures
-        (ap not c.if-not-has_blocks.false) (omega arith) _ c.places_of.ensures in
+    (ap not c.if-not-has_blocks.false) (omega arith) _ c.places_of.ensures in
     (turn-ends _ _ _ _ _ _ k c.loop-i.i _ (omega arith) c.wide.ensures).1
 
 pub slice_bounds-differs-end-in-loop-i : goal.slice_bounds-differs-end-in-loop-i
 slice_bounds-differs-end-in-loop-i c =
     let k = placeable _ c.args.set.0 _ _ _ _ c.size-count.ensures c.is_product.ensures (ap not c.if-not-is_product.false) _ c.has_blocks.ensures
-        (ap not c.if-not-has_blocks.false) (omega arith) _ c.places_of.ensures in
+    (ap not c.if-not-has_blocks.false) (omega arith) _ c.places_of.ensures in
     (turn-ends _ _ _ _ _ _ k c.loop-i.i _ (omega arith) c.wide.ensures).0
 
 pub overflow_add-result : goal.overflow_add-result
 overflow_add-result c =
     let k = placeable _ c.args.set.0 _ _ _ _ c.size-count.ensures c.is_product.ensures (ap not c.if-not-is_product.false) _ c.has_blocks.ensures
-        (ap not c.if-not-has_blocks.false) (omega arith) _ c.places_of.ensures in
+    (ap not c.if-not-has_blocks.false) (omega arith) _ c.places_of.ensures in
     omega (arith, has-le 32 _ _ k.listed.word (at_node _ _ _ k.listed c.loop-i.i _ (omega arith) c.wide.ensures).0, c.wide.ensures)
 
 pub returns-then-differs : goal.returns-then-differs
 returns-then-differs c =
     let k = placeable _ c.args.set.0 _ _ _ _ c.size-count.ensures c.is_product.ensures (ap not c.if-not-is_product.false) _ c.has_blocks.ensures
-        (ap not c.if-not-has_blocks.false) (omega arith) _ c.places_of.ensures in
+    (ap not c.if-not-has_blocks.false) (omega arith) _ c.places_of.ensures in
     found _ _ _ _ _ _ k c.loop-i.i c.wide.result (omega arith) c.wide.ensures (c.loop-i.invariant _ k) _ (omega (arith, c.wide.ensures))
     (c.differs.ensures.other c.if-differs.true)
 
@@ -83,5 +80,5 @@ loop-i-preserved c set k =
 pub returns : goal.returns
 returns c =
     let k = placeable _ c.args.set.0 _ _ _ _ c.size-count.ensures c.is_product.ensures (ap not c.if-not-is_product.false) _ c.has_blocks.ensures
-        (ap not c.if-not-has_blocks.false) (omega arith) _ c.places_of.ensures in
+    (ap not c.if-not-has_blocks.false) (omega arith) _ c.places_of.ensures in
     passed-all _ _ _ _ c.loop-i.i k.listed.word (omega (arith, k.listed.count_is)) (c.loop-i.invariant _ k)

@@ -1,8 +1,8 @@
 -- The first i nodes' blocks are fresh's; the answer is the first node where they are not. Assumes nothing.
-use Prim.Native.Nat.{ℕ, ◌+◌, ◌-◌, ◌*◌, ◌≤◌, ◌<◌}
+use Prim.Native.Nat.{ℕ, ◌-◌}
 use lib.ListN.{length}
-use Rattle.placing.proofs.Turns.{Placeable, no_room, placeable, turn-ends}
-use Rattle.placing.proofs.Comparing.{Passed, passed_none, passed-more, passed-all, found, compare-idle}
+use Rattle.placing.proofs.Turns.{Placeable}
+use Rattle.placing.proofs.Comparing.{Passed}
 use Rattle.placing.proofs.first_other.Given as goal
 
 abbrev pub invariant-loop-i : goal.invariant-loop-i

@@ -1,8 +1,8 @@
 -- After i turns the first i nodes have fresh's blocks, and the blocks outside the set are as they were. Assumes nothing.
-use Prim.Native.Nat.{ℕ, ◌+◌, ◌-◌, ◌*◌, ◌≤◌, ◌<◌}
+use Prim.Native.Nat.{ℕ, ◌-◌}
 use lib.ListN.{length}
 use Rattle.base.specs.Seq.{cell}
-use Rattle.placing.proofs.Turns.{Placeable, no_room, placeable, turn-ends, Written, written_none, put-turn, put-done, put-idle}
+use Rattle.placing.proofs.Turns.{Placeable, Written}
 use Rattle.placing.proofs.put_blocks.Given as goal
 
 abbrev pub invariant-loop-i : goal.invariant-loop-i

@@ -1,9 +1,7 @@
 use mathlib.Core.Path.{sym}
-use Prim.Native.Nat.{◌-◌, ◌≤◌}
 use native.Mathlib.Omega.{arith}
-use lib.ListN.{length}
 use lib.Seq.{length-take-le}
-use Rattle.points.proofs.Distinct.{at-most-more, at-most-front, Apart, apart-start, apart_next, old-found, apart-told}
+use Rattle.points.proofs.Distinct.{at-most-more, at-most-front, apart-start, apart_next, old-found, apart-told}
 use Rattle.points.proofs.different.Goals as goal
 
 pub loop-i-init : goal.loop-i-init

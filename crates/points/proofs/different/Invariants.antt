@@ -2,7 +2,7 @@
 use Prim.Native.Nat.{◌-◌, ◌≤◌}
 use lib.ListN.{length}
 use Rattle.points.specs.Lists.{AtMost}
-use Rattle.points.proofs.Distinct.{at-most-more, at-most-front, Apart, apart-start, apart_next, old-found, apart-told}
+use Rattle.points.proofs.Distinct.{Apart}
 use Rattle.points.proofs.different.Given as goal
 
 abbrev pub invariant-loop-i : goal.invariant-loop-i

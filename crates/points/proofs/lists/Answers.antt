@@ -1,4 +1,3 @@
-use Prim.Native.Nat.{◌-◌, ◌≤◌}
 use native.Mathlib.Omega.{arith}
 use Rattle.base.proofs.Decisions.{decided-true}
 use Rattle.points.proofs.Distinct.{among_none, among-more, none-among}

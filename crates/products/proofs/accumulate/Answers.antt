@@ -1,11 +1,10 @@
 use mathlib.Core.Logic.{⊎_elim}
 use Prim.Native.Nat.{◌+◌, ◌-◌, ◌≤◌, ◌<◌}
 use native.Mathlib.Omega.{arith}
-use lib.ListN.{length}
 use Rattle.base.proofs.Cases.{lt-or}
 use Rattle.base.proofs.Filled.{filled_none}
 use Rattle.products.proofs.Stretches.{length-stretch}
-use Rattle.products.proofs.Summing.{total, stretches-more, stretches-all}
+use Rattle.products.proofs.Summing.{stretches-more, stretches-all}
 use Rattle.products.proofs.accumulate.Goals as goal
 
 pub loop-at-init : goal.loop-at-init

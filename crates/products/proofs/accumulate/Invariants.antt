@@ -1,8 +1,8 @@
 -- After some turns the bytes before `at` have their sums, the others are as they were. Assumes nothing.
-use Prim.Native.Nat.{◌+◌, ◌-◌, ◌≤◌, ◌<◌}
+use Prim.Native.Nat.{◌-◌, ◌≤◌}
 use lib.ListN.{length}
 use Rattle.base.specs.Parts.{Filled}
-use Rattle.products.proofs.Summing.{total, stretches-more, stretches-all}
+use Rattle.products.proofs.Summing.{total}
 use Rattle.products.proofs.accumulate.Given as goal
 
 abbrev pub invariant-loop-at : goal.invariant-loop-at

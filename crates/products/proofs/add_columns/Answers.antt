@@ -1,10 +1,10 @@
 use mathlib.Core.Path.{refl, ap, ◌∙◌}
-use Prim.Native.Nat.{ℕ, ◌+◌, ◌-◌, ◌*◌, ◌≤◌}
+use Prim.Native.Nat.{ℕ, ◌+◌, ◌*◌, ◌≤◌}
 use native.Mathlib.Omega.{arith}
 use lib.ListN.{length}
 use Rattle.base.specs.Seq.{cell}
 use Rattle.products.proofs.Stretches.{stretch-cell, stretch-ends}
-use Rattle.products.proofs.Summing.{Summed, summed-none, summed-more, summed-all}
+use Rattle.products.proofs.Summing.{summed-none, summed-more, summed-all}
 use Rattle.products.proofs.add_columns.Goals.{After-wide}
 use Rattle.products.proofs.add_columns.Goals as goal
 

@@ -1,7 +1,7 @@
 -- After j turns the first j blocks are added. Assumes nothing.
-use Prim.Native.Nat.{ℕ, ◌+◌, ◌-◌, ◌*◌, ◌≤◌}
+use Prim.Native.Nat.{◌-◌}
 use lib.ListN.{length}
-use Rattle.products.proofs.Summing.{Summed, summed-none, summed-more, summed-all}
+use Rattle.products.proofs.Summing.{Summed}
 use Rattle.products.proofs.add_columns.Given as goal
 
 abbrev pub invariant-loop-j : goal.invariant-loop-j

@@ -1,9 +1,8 @@
 use mathlib.Core.Path.{ap₂}
-use Prim.Native.Nat.{◌-◌, ◌≤◌}
 use native.Mathlib.Omega.{arith}
 use lib.Bits.{bit_xor}
 use Rattle.base.proofs.Filled.{filled_none, filled_more, filled-all}
-use Rattle.field.specs.Field.{add, mul}
+use Rattle.field.specs.Field.{add}
 use Rattle.products.specs.Blocks.{plus_multiple}
 use Rattle.products.proofs.add_multiple.Goals as goal
 

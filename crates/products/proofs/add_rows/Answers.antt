@@ -1,7 +1,7 @@
-use Prim.Native.Nat.{◌+◌, ◌-◌, ◌*◌, ◌≤◌}
+use Prim.Native.Nat.{◌+◌, ◌*◌, ◌≤◌}
 use native.Mathlib.Omega.{arith}
 use lib.ListN.{length}
-use Rattle.products.specs.Blocks.{product, Fits, Spanned}
+use Rattle.products.specs.Blocks.{Fits}
 use Rattle.products.proofs.Laws.{nothing-added}
 use Rattle.products.proofs.RowByRow.{part-inside, row-added, rows-added}
 use Rattle.products.proofs.Spanning.{spanned-none}

@@ -1,7 +1,7 @@
 -- After i turns the first i rows of the product are added to their targets. Assumes nothing.
-use Prim.Native.Nat.{◌+◌, ◌-◌, ◌*◌, ◌≤◌}
+use Prim.Native.Nat.{◌-◌, ◌≤◌}
 use lib.ListN.{length}
-use Rattle.products.specs.Blocks.{product, Fits, Spanned}
+use Rattle.products.specs.Blocks.{product, Spanned}
 use Rattle.products.proofs.add_rows.Given as goal
 
 abbrev pub invariant-loop-i : goal.invariant-loop-i

@@ -1,6 +1,5 @@
 -- The sum is formed in zeros, and added as far as the stretch goes. Assumes nothing.
 use mathlib.Core.Path.{sym}
-use Prim.Native.Nat.{◌≤◌}
 use native.Mathlib.Omega.{arith}
 use lib.ListN.{length}
 use Rattle.products.proofs.Summing.{room-length, room_whole, stretch-added}

@@ -1,6 +1,5 @@
 -- Each question that is answered by no decides it; the last answer decides where the others are yes. Assumes nothing.
 use native.Mathlib.Omega.{arith}
-use borrow.Author.Tests.{not-true, not-false}
 use Rattle.products.proofs.Fitting.{no_bytes, other-rows, other-targets, all-fits}
 use Rattle.products.proofs.fits.Goals as goal
 
