@@ -1,7 +1,6 @@
-use mathlib.Core.Path.{◌≡◌, refl}
-use Prim.Native.Nat.{◌*◌, ◌-◌, ◌≤◌}
+use mathlib.Core.Path.{refl}
 use native.Mathlib.Omega.{arith}
-use lib.ListN.{length, length-set, get_or}
+use lib.ListN.{length-set, get_or}
 use Rattle.field.specs.Field.{add}
 use Rattle.matrix.proofs.Rewriting.{rewritten-none, rewritten-more, rewritten-all, added-entry}
 use Rattle.matrix.proofs.add_multiple.Goals as goal

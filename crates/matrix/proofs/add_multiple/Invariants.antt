@@ -1,7 +1,7 @@
 -- Row i is rewritten entry by entry, each from its own old value and the entry of the given row. Assumes nothing.
-use mathlib.Core.Path.{◌≡◌, refl}
+use mathlib.Core.Path.{◌≡◌}
 use Prim.Native.Nat.{◌*◌, ◌-◌, ◌≤◌}
-use lib.ListN.{length, length-set, get_or}
+use lib.ListN.{length, get_or}
 use Rattle.matrix.specs.Working.{row_plus, Rewritten}
 use Rattle.matrix.proofs.add_multiple.Given as goal
 

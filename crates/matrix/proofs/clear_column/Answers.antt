@@ -1,8 +1,7 @@
-use mathlib.Core.Path.{◌≡◌, refl}
-use Prim.Native.Nat.{◌-◌, ◌≤◌}
+use mathlib.Core.Path.{refl}
 use native.Mathlib.Omega.{arith}
 use borrow.Author.Rules.{rules}
-use Rattle.matrix.proofs.RowOperations.{ClearedBelow, below_none, below_more, below_all, still-ready, still-copy}
+use Rattle.matrix.proofs.RowOperations.{below_none, below_more, below_all, still-ready, still-copy}
 use Rattle.matrix.proofs.clear_column.Goals as goal
 
 pub loop-i-init : goal.loop-i-init

@@ -1,9 +1,9 @@
 -- After i turns column j is clear in the first i rows, and row j is as it was copied. Assumes nothing.
-use mathlib.Core.Path.{◌≡◌, refl}
+use mathlib.Core.Path.{◌≡◌}
 use Prim.Native.Nat.{◌-◌, ◌≤◌}
 use lib.ListN.{length}
 use Rattle.matrix.specs.Working.{Copy}
-use Rattle.matrix.proofs.RowOperations.{ClearedBelow, below_none, below_more, below_all, still-ready, still-copy}
+use Rattle.matrix.proofs.RowOperations.{ClearedBelow}
 use Rattle.matrix.proofs.clear_column.Given as goal
 
 abbrev pub invariant-loop-i : goal.invariant-loop-i

@@ -1,7 +1,6 @@
-use mathlib.Core.Path.{◌≡◌, refl}
-use Prim.Native.Nat.{ℕ, ◌-◌, ◌≤◌, ◌<◌}
+use mathlib.Core.Path.{refl}
 use native.Mathlib.Omega.{arith}
-use lib.ListN.{length, length-set, get_or}
+use lib.ListN.{length-set}
 use Rattle.matrix.specs.Working.{grid}
 use Rattle.matrix.proofs.Rewriting.{copied_more}
 use Rattle.matrix.proofs.copy_row.Goals as goal

@@ -1,7 +1,7 @@
 -- The first k entries are copied. Assumes nothing.
-use mathlib.Core.Path.{◌≡◌, refl}
+use mathlib.Core.Path.{◌≡◌}
 use Prim.Native.Nat.{ℕ, ◌-◌, ◌≤◌, ◌<◌}
-use lib.ListN.{length, length-set, get_or}
+use lib.ListN.{length, get_or}
 use Rattle.matrix.specs.Working.{grid}
 use Rattle.matrix.proofs.copy_row.Given as goal
 

@@ -1,8 +1,7 @@
-use mathlib.Core.Path.{◌≡◌, refl, subst}
-use Prim.Native.Nat.{◌-◌, ◌≤◌}
+use mathlib.Core.Path.{refl, subst}
 use native.Mathlib.Omega.{arith}
 use borrow.Author.Rules.{rules}
-use Rattle.matrix.specs.Working.{Reduced, Found}
+use Rattle.matrix.specs.Working.{Found}
 use Rattle.matrix.proofs.RowOperations.{reduced-none, reduced-then, reduced-less}
 use Rattle.matrix.proofs.eliminate.Goals as goal
 

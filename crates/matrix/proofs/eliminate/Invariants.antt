@@ -1,9 +1,9 @@
 -- After j turns the first j columns are the identity's, and the kernel is that of the start. Assumes nothing.
-use mathlib.Core.Path.{◌≡◌, refl, subst}
+use mathlib.Core.Path.{◌≡◌}
 use Prim.Native.Nat.{◌-◌, ◌≤◌}
 use lib.ListN.{length}
 use Rattle.field.specs.Field.{Bytes}
-use Rattle.matrix.specs.Working.{Reduced, Found}
+use Rattle.matrix.specs.Working.{Reduced}
 use Rattle.matrix.proofs.eliminate.Given as goal
 
 abbrev pub invariant-loop-j : goal.invariant-loop-j

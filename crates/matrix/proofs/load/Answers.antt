@@ -1,9 +1,8 @@
-use mathlib.Core.Path.{◌≡◌, refl}
-use Prim.Native.Nat.{◌-◌, ◌≤◌}
+use mathlib.Core.Path.{refl}
 use native.Mathlib.Omega.{arith}
-use lib.ListN.{length, length-set}
+use lib.ListN.{length-set}
 use borrow.Author.Rules.{rules}
-use Rattle.matrix.proofs.Loading.{LoadedBelow, loaded-none, loaded-more, loaded-all}
+use Rattle.matrix.proofs.Loading.{loaded-none, loaded-more, loaded-all}
 use Rattle.matrix.proofs.load.Goals as goal
 
 pub loop-i-init : goal.loop-i-init

@@ -1,8 +1,8 @@
 -- After i turns the first i rows are those of [m | 1], and the rest is still zero. Assumes nothing.
-use mathlib.Core.Path.{◌≡◌, refl}
+use mathlib.Core.Path.{◌≡◌}
 use Prim.Native.Nat.{◌-◌, ◌≤◌}
-use lib.ListN.{length, length-set}
-use Rattle.matrix.proofs.Loading.{LoadedBelow, loaded-none, loaded-more, loaded-all}
+use lib.ListN.{length}
+use Rattle.matrix.proofs.Loading.{LoadedBelow}
 use Rattle.matrix.proofs.load.Given as goal
 
 abbrev pub invariant-loop-i : goal.invariant-loop-i

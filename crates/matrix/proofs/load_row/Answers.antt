@@ -1,9 +1,8 @@
-use mathlib.Core.Path.{◌≡◌, refl}
-use Prim.Native.Nat.{◌*◌, ◌-◌, ◌≤◌}
+use mathlib.Core.Path.{refl}
 use native.Mathlib.Omega.{arith}
-use lib.ListN.{length, length-set}
+use lib.ListN.{length-set}
 use Rattle.matrix.specs.Matrix.{entry}
-use Rattle.matrix.proofs.Loading.{Place, place}
+use Rattle.matrix.proofs.Loading.{place}
 use Rattle.matrix.proofs.Rewriting.{rewritten-none, rewritten-more, rewritten-all}
 use Rattle.matrix.proofs.load_row.Goals as goal
 

@@ -1,7 +1,7 @@
 -- Row i of m is copied entry by entry. Assumes nothing.
-use mathlib.Core.Path.{◌≡◌, refl}
+use mathlib.Core.Path.{◌≡◌}
 use Prim.Native.Nat.{◌*◌, ◌-◌, ◌≤◌}
-use lib.ListN.{length, length-set}
+use lib.ListN.{length}
 use Rattle.matrix.specs.Matrix.{entry}
 use Rattle.matrix.specs.Working.{Rewritten}
 use Rattle.matrix.proofs.load_row.Given as goal

@@ -1,7 +1,6 @@
-use mathlib.Core.Path.{◌≡◌, refl}
-use Prim.Native.Nat.{◌*◌, ◌-◌, ◌≤◌}
+use mathlib.Core.Path.{refl}
 use native.Mathlib.Omega.{arith}
-use lib.ListN.{length, length-set}
+use lib.ListN.{length-set}
 use Rattle.matrix.proofs.Rewriting.{rewritten-none, rewritten-more, rewritten-all, scaled-entry}
 use Rattle.matrix.proofs.scale_row.Goals as goal
 

@@ -1,7 +1,7 @@
 -- Row j is rewritten entry by entry, each from its own old value. Assumes nothing.
-use mathlib.Core.Path.{◌≡◌, refl}
+use mathlib.Core.Path.{◌≡◌}
 use Prim.Native.Nat.{◌*◌, ◌-◌, ◌≤◌}
-use lib.ListN.{length, length-set}
+use lib.ListN.{length}
 use Rattle.matrix.specs.Working.{row_times, Rewritten}
 use Rattle.matrix.proofs.scale_row.Given as goal
 

@@ -1,8 +1,7 @@
-use mathlib.Core.Path.{◌≡◌, refl}
-use Prim.Native.Nat.{◌-◌, ◌≤◌}
+use mathlib.Core.Path.{refl}
 use native.Mathlib.Omega.{arith}
 use borrow.Author.Rules.{rules}
-use Rattle.matrix.proofs.Loading.{StoredBelow, stored_more}
+use Rattle.matrix.proofs.Loading.{stored_more}
 use Rattle.matrix.proofs.store.Goals as goal
 
 pub loop-i-init : goal.loop-i-init

@@ -1,8 +1,8 @@
 -- After i turns the first i rows are written. Assumes nothing.
-use mathlib.Core.Path.{◌≡◌, refl}
+use mathlib.Core.Path.{◌≡◌}
 use Prim.Native.Nat.{◌-◌, ◌≤◌}
 use lib.ListN.{length}
-use Rattle.matrix.proofs.Loading.{StoredBelow, stored_more}
+use Rattle.matrix.proofs.Loading.{StoredBelow}
 use Rattle.matrix.proofs.store.Given as goal
 
 abbrev pub invariant-loop-i : goal.invariant-loop-i

@@ -1,8 +1,7 @@
-use mathlib.Core.Path.{◌≡◌, refl}
-use Prim.Native.Nat.{◌+◌, ◌*◌, ◌-◌, ◌≤◌}
+use mathlib.Core.Path.{refl}
 use native.Mathlib.Omega.{arith}
-use lib.ListN.{length, length-set}
-use Rattle.matrix.proofs.Loading.{Place, place}
+use lib.ListN.{length-set}
+use Rattle.matrix.proofs.Loading.{place}
 use Rattle.matrix.proofs.Rewriting.{rewritten-none, rewritten-more, rewritten-all}
 use Rattle.matrix.proofs.store_row.Goals as goal
 

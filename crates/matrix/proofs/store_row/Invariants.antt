@@ -1,7 +1,7 @@
 -- The right half of row i is copied entry by entry. Assumes nothing.
-use mathlib.Core.Path.{◌≡◌, refl}
+use mathlib.Core.Path.{◌≡◌}
 use Prim.Native.Nat.{◌+◌, ◌*◌, ◌-◌, ◌≤◌}
-use lib.ListN.{length, length-set}
+use lib.ListN.{length}
 use Rattle.matrix.specs.Working.{grid, Rewritten}
 use Rattle.matrix.proofs.store_row.Given as goal
 
