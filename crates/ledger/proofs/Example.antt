@@ -14,7 +14,6 @@ use Rattle.field.specs.FiniteSum.{sum}
 use Rattle.interpolation.specs.Polynomial.{evaluate}
 use Rattle.params.specs.Nodes.{has, size, within, disjoint, count, lowest}
 use Rattle.params.specs.Params.{slack_parts, working}
-use Rattle.params.specs.declared.Params.{Params}
 use Rattle.gates.specs.Gates.{encode_gate, decode_gate, delta_gate, update_gate, repair_gate, reconfigure_gate, check_gate, view_gate, damage_gate}
 use Rattle.serials.specs.Serials.{highest}
 use Rattle.subsets.specs.Order.{before, how_many, earlier}
@@ -23,7 +22,7 @@ use Rattle.code.specs.Calls.{Post, Unwritten}
 use Rattle.code.specs.declared.Verdict.TheVariants.{Refused, Blamed}
 use Rattle.ledger.specs.Ledger.{Held, begun, Sends, no_sends, sending, Machine, opened, held, other, encode, update, repair, reconfigure, decode, delta}
 use Rattle.ledger.specs.Ledger.{check, view, Call, Event, call, damage, RecordInForce, in_force, damaged_word, encoded, updated, repaired, reconfigured}
-use Rattle.ledger.specs.Ledger.{decoded, differed, checked, viewed, damaged, Closed, Sendable, Readable, Run, done, more, History, Reading}
+use Rattle.ledger.specs.Ledger.{decoded, differed, checked, viewed, damaged, Closed, Run, done, more, History, Reading}
 use Rattle.ledger.proofs.Computed.{bytes, words, encode-by, decode-by, delta-by, update-by, repair-by, reconfigure-by, differing, found-by, stopped_by}
 use Rattle.ledger.proofs.Computed.{undamaged-by, sent-none, sent-more, closed-by}
 use Rattle.ledger.proofs.Invariant.{given-in-force}

@@ -13,7 +13,7 @@ use Rattle.field.specs.Field.{add, plus}
 use Rattle.params.specs.Nodes.{has, size, within}
 use Rattle.gates.specs.Valid.{Valid}
 use Rattle.params.specs.declared.Params.{Params}
-use Rattle.serials.specs.Serials.{takes, Stamped}
+use Rattle.serials.specs.Serials.{takes}
 use Rattle.serials.proofs.Laws.{stamped-exists}
 use Rattle.code.specs.Code.{Parts, block}
 use Rattle.code.specs.Calls.{Updated, Sent}

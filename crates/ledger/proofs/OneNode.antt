@@ -1,5 +1,5 @@
 -- Damage to the nodes of a set (document 02, 2026-04), and document 01's to one node, which is that to the set of this node alone. Assumes nothing.
-use mathlib.Core.Path.{◌≡◌, refl, sym, ap, ◌∙◌}
+use mathlib.Core.Path.{◌≡◌, sym, ap, ◌∙◌}
 use mathlib.Core.Logic.{◌↔◌, ⊎_elim}
 use mathlib.Core.Bool.{Bool, ◌||◌, cond, or-false}
 use mathlib.Core.List.{List}
@@ -12,7 +12,7 @@ use lib.Pow.{pow_pos, pow-add, pow-lt, pow_mono, shl-shr}
 use borrow.Author.Tests.{eq-eqb, ne_eqb, lt-ltb, ltb-true}
 use Rattle.base.specs.Seq.{cell, blocks}
 use Rattle.base.proofs.Cases.{eq-or, lt-or}
-use Rattle.base.proofs.Seq.{tabulate-ext, cells_ext, cell-blocks, length-blocks}
+use Rattle.base.proofs.Seq.{tabulate-ext, cells_ext, length-blocks}
 use Rattle.params.specs.Nodes.{has, within, count}
 use Rattle.params.specs.declared.Params.{Params}
 use Rattle.params.proofs.Sets.{has-past, has-none, count-stop}

@@ -4,23 +4,22 @@ use mathlib.Core.Path.{◌≡◌, refl, sym, ap, ap₂, ◌∙◌, subst}
 use mathlib.Core.Logic.{◌⊎◌, inl, inr, ⊎_elim}
 use mathlib.Core.Bool.{Bool, true, false, ◌&&◌, ◌||◌, true≢false, cond}
 use mathlib.Core.List.{List}
-use Prim.Native.Nat.{ℕ, suc, ◌+◌, ◌≤◌, ◌<◌}
+use Prim.Native.Nat.{ℕ, suc, ◌≤◌, ◌<◌}
 use native.Mathlib.Omega.{arith}
 use lib.Dec.{ltb, eqb}
-use lib.ListN.{length, get_or, replicate}
-use borrow.Author.Tests.{lt-ltb, ltb-true, ltb-false, eqb-true, eqb-false, eq-eqb, ne_eqb}
+use lib.ListN.{length, get_or}
+use borrow.Author.Tests.{ltb-true, ltb-false, eqb-true, eq-eqb, ne_eqb}
 use Rattle.base.proofs.Cases.{lt-or, eq-or}
-use Rattle.base.proofs.Seq.{zeros-at}
-use Rattle.params.specs.Nodes.{has, size, within, count}
+use Rattle.params.specs.Nodes.{has, size, within}
 use Rattle.params.specs.Params.{reshaped}
 use Rattle.params.specs.declared.Params.{Params}
 use Rattle.params.specs.declared.Shape.{Shape}
 use Rattle.params.proofs.Sets.{within-size, meet}
 use Rattle.gates.specs.Valid.{Valid}
 use Rattle.serials.specs.Serials.{takes, highest, Stamped}
-use Rattle.serials.proofs.Laws.{highest-le, highest-at, highest-mono, stamped-at}
+use Rattle.serials.proofs.Laws.{highest-le, highest-at, highest-mono}
 use Rattle.code.specs.Calls.{writes}
-use Rattle.ledger.specs.Ledger.{Sends, no_sends, sending, Closed, Sendable}
+use Rattle.ledger.specs.Ledger.{Sends, no_sends, sending, Closed}
 
 -- ---- one send more, by the serials
 
