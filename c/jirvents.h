@@ -1,5 +1,5 @@
 /* Jirvents for C: records spread over storage nodes by a Read-Write erasure code. Any r of n nodes give a record's message back, and a change of the message
- * goes out to any w nodes without reading them. Link with target/staticlib/libjirvents.a, which `rt staticlib jirvents` makes, for x86-64 Linux alone.
+ * goes out to any w nodes without reading them. Link with crates/jirvents/out/libjirvents.a, which `rt lib` makes in crates/jirvents, for Linux alone, on x86-64-v2.
  *
  * A code has k message parts, r nodes to read, w nodes to write and n nodes, with r + w at least k + n, and b bytes in a block. A message is k parts of b
  * bytes, a slack n - w parts (any bytes), a codeword n blocks, that of node 1 first. A node set is a number of 32 bits in which node i is worth 2^(i-1).

@@ -6,7 +6,7 @@ use std::process::{Child, ChildStdin, Command, Stdio};
 use std::thread::{self, JoinHandle};
 use std::time::{Duration, Instant};
 
-const PROGRAM: &str = concat!(env!("CARGO_MANIFEST_DIR"), "/../target/bin/season");
+const PROGRAM: &str = concat!(env!("CARGO_MANIFEST_DIR"), "/../crates/season/out/season");
 
 /// (16,24,24,32), B = 1024.
 const ARRANGEMENT: [u16; 5] = [16, 24, 24, 32, 1024];

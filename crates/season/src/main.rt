@@ -1,44 +1,67 @@
 // The season program of document 01: a season file on standard input, a line for each event on standard output. A read that fails counts as the end of the
-// input. After a write that fails the program stops and says so on standard error, since a program of this language has no exit status.
+// input. After a write that fails the program stops, says so on standard error and ends with status 1.
 #![tactic(auto)]
 
 ghost use Rattle.std.specs.Prelude.{◌≤◌, length};
 ghost use Rattle.season_run.specs.Season.{Room};
 ghost use Rattle.season.specs.Loop.{Printed};
 
-use libc::{STDERR_FILENO, STDIN_FILENO, STDOUT_FILENO};
 use season_run::beginning::begin;
 use season_run::turning::turn;
 use season_run::{Next, Turn};
+use std::io::{Read, Write};
+use std::process::ExitCode;
 
 // "At most 65,535 bytes (later bytes are not read)."
-fn main() {
+fn main(rt: HostRuntime) -> ExitCode {
     let mut input = [0u8; 65535];
-    let count = io::read_full(STDIN_FILENO, &mut input);
-    if !run(&input[..count]) {
-        io::write_all(
-            STDERR_FILENO,
-            b"season: output cut short: it could not be written\n",
-        );
+    let count = read_full(&mut rt.stdin(), &mut input);
+    if run(&input[..count], &mut rt.stdout()) {
+        return ExitCode::SUCCESS;
     }
+    let _ = rt
+        .stderr()
+        .write_all(b"season: output cut short: it could not be written\n");
+    ExitCode::FAILURE
+}
+
+// Reads until the buffer is full, the input ends or a read fails: how many bytes it put at the buffer's front.
+fn read_full(from: &mut impl Read, buffer: &mut [u8]) -> usize
+    ensures { result ≤ length buffer.new }
+{
+    let mut done = 0;
+    while done < buffer.len() {
+        match from.read(&mut buffer[done..]) {
+            Ok(0) => return done,
+            Ok(count) => done += count,
+            Err(_) => return done,
+        }
+    }
+    done
 }
 
 // Makes room for the record, the serials and a line. The answer is whether all lines were written.
-fn run(input: &[u8]) -> bool {
+fn run(input: &[u8], out: &mut impl Write) -> bool {
     let mut codeword = [0u8; 32768];
     let mut serials = [0u32; 32];
     let mut line = [0u8; 65600];
-    run_within(input, &mut codeword, &mut serials, &mut line)
+    run_within(input, &mut codeword, &mut serials, &mut line, out)
 }
 
 // Writes each turn's line until the run ends; after a write that fails it stops and answers no. That the calls are the right ones, to the end, is proved
 // (Printed); that their lines are written is tested.
-fn run_within(input: &[u8], codeword: &mut [u8], serials: &mut [u32], line: &mut [u8]) -> bool
+fn run_within(
+    input: &[u8],
+    codeword: &mut [u8],
+    serials: &mut [u32],
+    line: &mut [u8],
+    out: &mut impl Write,
+) -> bool
     requires { Room codeword.old serials.old line.old }
     ensures { Printed input.now codeword.old serials.old line.old result codeword.new serials.new line.new }
 {
     let first = begin(input, codeword, serials, line);
-    if !show(first, line) {
+    if !show(first, line, out) {
         return false;
     }
     let opened = first.next;
@@ -48,7 +71,7 @@ fn run_within(input: &[u8], codeword: &mut [u8], serials: &mut [u32], line: &mut
     let mut s = state;
     loop {
         let t = turn(input, s, codeword, serials, line);
-        if !show(t, line) {
+        if !show(t, line, out) {
             return false;
         }
         let next = t.next;
@@ -60,9 +83,9 @@ fn run_within(input: &[u8], codeword: &mut [u8], serials: &mut [u32], line: &mut
 }
 
 // Writes the turn's line.
-fn show(t: Turn, line: &[u8]) -> bool
+fn show(t: Turn, line: &[u8], out: &mut impl Write) -> bool
     requires { t.written ≤ length line.now }
 {
     let written = t.written;
-    io::write_all(STDOUT_FILENO, &line[..written])
+    out.write_all(&line[..written]).is_ok()
 }
