@@ -1,9 +1,9 @@
 -- After k turns the word has the picks of the first k coefficients. Assumes nothing.
-use mathlib.Core.Path.{◌≡◌, ap, ap₂, ◌∙◌}
-use Prim.Native.Nat.{ℕ, ◌+◌, ◌-◌, ◌*◌, ◌≤◌}
+use mathlib.Core.Path.{◌≡◌}
+use Prim.Native.Nat.{◌-◌, ◌≤◌}
 use lib.ListN.{length}
 use Rattle.words.specs.Words.{word as wordFrom}
-use Rattle.picks.proofs.Words.{first_picks, picks-none, picks_more, picks-fit}
+use Rattle.picks.proofs.Words.{first_picks}
 use Rattle.picks.proofs.picks_word.Given as goal
 
 abbrev pub invariant-loop-k : goal.invariant-loop-k
