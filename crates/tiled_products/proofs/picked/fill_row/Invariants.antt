@@ -1,0 +1,10 @@
+-- After g turns the first g groups have the picks of this row. Assumes nothing.
+use Prim.Native.Nat.{ℕ, ◌+◌, ◌-◌, ◌*◌, ◌≤◌}
+use Rattle.tiles.specs.Tiling.{columns, RowPicked}
+use Rattle.tiled_products.proofs.picked.fill_row.Given as goal
+
+abbrev pub invariant-loop-g : goal.invariant-loop-g
+invariant-loop-g l = (l.g ≤ l.groups) × RowPicked l.i l.size l.coeffs l.g l.initial.picks l.picks
+
+abbrev pub decreases-loop-g : goal.decreases-loop-g
+decreases-loop-g l = l.groups - l.g
