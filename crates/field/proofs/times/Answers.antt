@@ -1,9 +1,8 @@
 use mathlib.Core.Path.{◌∙◌}
-use Prim.Native.Nat.{◌-◌}
 use native.Mathlib.Omega.{arith}
 use Rattle.field.specs.Field.{add}
 use Rattle.field.proofs.Multiplication.{mul_comm}
-use Rattle.field.proofs.Steps.{Stepped, stepped-none, stepped-more, stepped-all, bit-times-byte}
+use Rattle.field.proofs.Steps.{stepped-none, stepped-more, stepped-all, bit-times-byte}
 use Rattle.field.proofs.times.Goals as goal
 
 pub loop-i-init : goal.loop-i-init

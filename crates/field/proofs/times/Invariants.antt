@@ -1,6 +1,6 @@
 -- After i steps: what is summed up, and the rest of the factor times the present multiple, make the product. Assumes nothing.
 use Prim.Native.Nat.{◌-◌}
-use Rattle.field.proofs.Steps.{Stepped, stepped-none, stepped-more, stepped-all, bit-times-byte}
+use Rattle.field.proofs.Steps.{Stepped}
 use Rattle.field.proofs.times.Given as goal
 
 abbrev pub invariant-loop-i : goal.invariant-loop-i

@@ -3,7 +3,7 @@ use Prim.Native.Nat.{◌+◌, ◌<◌}
 use native.Mathlib.Omega.{arith}
 use lib.Count.{count_trailing_zeros}
 use lib.Pow.{shr_le}
-use Rattle.params.proofs.Words.{Walked, walked_none, next-lt, at_lt, walked_more, walked-length, walked_all}
+use Rattle.params.proofs.Words.{walked_none, next-lt, at_lt, walked_more, walked-length, walked_all}
 use Rattle.params.proofs.NodeSet.list.Goals as goal
 
 pub returns-then-out-ne32 : goal.returns-then-out-ne32

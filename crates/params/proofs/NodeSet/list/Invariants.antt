@@ -1,5 +1,5 @@
 -- Up to the node last passed, the nodes are listed; the rest of the bits falls with each turn. Assumes nothing.
-use Rattle.params.proofs.Words.{Walked, walked_none, next-lt, at_lt, walked_more, walked-length, walked_all}
+use Rattle.params.proofs.Words.{Walked}
 use Rattle.params.proofs.NodeSet.list.Given as goal
 
 abbrev pub invariant-loop-rest : goal.invariant-loop-rest

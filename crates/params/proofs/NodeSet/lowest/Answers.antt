@@ -1,11 +1,11 @@
 use mathlib.Core.Path.{◌≡◌, ap, ◌∙◌}
-use Prim.Native.Nat.{ℕ, ◌+◌, ◌-◌, ◌≤◌, ◌<◌, zero-le}
+use Prim.Native.Nat.{ℕ, ◌+◌, ◌-◌, ◌<◌, zero-le}
 use native.Mathlib.Omega.{arith}
 use lib.Bits.{bit_and}
 use lib.Count.{count_trailing_zeros}
 use lib.Pow.{pow_pos}
-use Rattle.params.specs.Nodes.{has, size, lowest}
-use Rattle.params.proofs.Words.{one_shifted, Passed, passed_none, next-lt, at_lt, passed-more, more_left, passed-lt, passed-lowest}
+use Rattle.params.specs.Nodes.{has, lowest}
+use Rattle.params.proofs.Words.{one_shifted, passed_none, next-lt, at_lt, passed-more, more_left, passed-lt, passed-lowest}
 use Rattle.params.proofs.Lowest.{lowest-all}
 use Rattle.params.proofs.NodeSet.lowest.Goals as goal
 

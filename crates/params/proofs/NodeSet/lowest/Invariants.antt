@@ -1,7 +1,7 @@
 -- Up to the bit last passed, so many nodes are in the set; there are more than q, so a bit is left at each turn. Assumes nothing.
-use Prim.Native.Nat.{ℕ, ◌+◌, ◌-◌, ◌≤◌, ◌<◌, zero-le}
-use Rattle.params.specs.Nodes.{has, size, lowest}
-use Rattle.params.proofs.Words.{one_shifted, Passed, passed_none, next-lt, at_lt, passed-more, more_left, passed-lt, passed-lowest}
+use Prim.Native.Nat.{ℕ, ◌-◌, ◌≤◌, ◌<◌}
+use Rattle.params.specs.Nodes.{size}
+use Rattle.params.proofs.Words.{Passed}
 use Rattle.params.proofs.NodeSet.lowest.Given as goal
 
 -- not all nodes are passed
