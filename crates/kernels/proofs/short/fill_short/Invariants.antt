@@ -1,0 +1,13 @@
+-- After each turn the table has the sums over the columns from t on. Assumes nothing.
+use mathlib.Core.Path.{◌≡◌, refl, sym, ap, ◌∙◌}
+use Prim.Native.Nat.{ℕ, suc, ◌+◌, ◌-◌, ◌*◌, ◌^◌, ◌≤◌}
+use lib.ListN.{length, get_or}
+use Rattle.tiles.specs.Tiling.{tile_at, Chosen}
+use Rattle.kernels.proofs.short.fill_short.Given as goal
+
+abbrev pub invariant-loop-t : goal.invariant-loop-t
+invariant-loop-t l =
+    (l.t ≤ length l.places) × (l.half ≡ 2 ^ (length l.places - l.t)) × Chosen 16 l.w (length l.places - l.t) (λ k. tile_at l.b l.at l.src l.places (l.t + k)) l.initial.table l.table
+
+abbrev pub decreases-loop-t : goal.decreases-loop-t
+decreases-loop-t l = l.t
