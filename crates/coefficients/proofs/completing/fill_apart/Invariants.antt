@@ -1,0 +1,12 @@
+-- After j turns the first j gains are found, each by the exponents of what it is made of. Assumes nothing.
+use Prim.Native.Nat.{ℕ, ◌-◌, ◌≤◌, ◌<◌}
+use lib.ListN.{length, get_or}
+use Rattle.base.specs.Parts.{Filled}
+use Rattle.interpolation.specs.Lagrange.{basis_value}
+use Rattle.coefficients.proofs.completing.fill_apart.Given as goal
+
+abbrev pub invariant-loop-j : goal.invariant-loop-j
+invariant-loop-j l = (l.j ≤ length l.at) × Filled (λ o. basis_value l.e l.at (get_or l.at o 0) l.target) l.j l.initial.gains l.gains
+
+abbrev pub decreases-loop-j : goal.decreases-loop-j
+decreases-loop-j l = length l.at - l.j
