@@ -32,3 +32,6 @@ points-upto n h =
   where
     entry : (i : ℕ) → i < length (tabulate n suc) → (get_or (tabulate n suc) i 0 ≡ suc i) × (i < n)
     entry i hi = let k : i < n = omega (arith, length-tabulate n suc) in (get_d_tabulate n suc i k, k)
+
+pub points-1-32 : Points (tabulate 32 suc)
+points-1-32 = points-upto 32 (omega arith)
