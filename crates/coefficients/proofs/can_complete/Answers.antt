@@ -1,6 +1,5 @@
 -- Each test is one of the facts that the rows ask; the last answers for the targets. Assumes nothing.
 use native.Mathlib.Omega.{arith}
-use borrow.Author.Tests.{not-true, not-false}
 use lib.ListN.{length}
 use Rattle.base.proofs.Buffers.{areas-fit}
 use Rattle.base.proofs.Decisions.{decided-false}

@@ -1,5 +1,4 @@
 -- Where all that is asked holds, the rows are those of the completion. Assumes nothing.
-use borrow.Author.Tests.{not-true, not-false}
 use lib.ListN.{length}
 use Rattle.coefficients.specs.Coefficients.{Roomy}
 use Rattle.coefficients.proofs.Completion.{extends-kept, extends-made}
@@ -15,10 +14,10 @@ roomy c = c.can_complete.ensures.holds c.if-not-can_complete.false
 
 pub complete-requires : goal.complete-requires
 complete-requires c = record {
-      log_table = c.logs.ensures;
-      power_table = c.powers.ensures;
-      roomy = roomy (goal.at.complete-requires c).Else-not-can_complete;
-    }
+  log_table = c.logs.ensures;
+  power_table = c.powers.ensures;
+  roomy = roomy (goal.at.complete-requires c).Else-not-can_complete;
+}
 
 pub returns : goal.returns
 returns c =

@@ -20,10 +20,10 @@ room c =
 
 pub fill_rows-requires : goal.fill_rows-requires
 fill_rows-requires c = record {
-      log_table = c.logs.ensures;
-      power_table = c.powers.ensures;
-      out_len = room (goal.at.fill_rows-requires c).Else-not-is_product;
-    }
+  log_table = c.logs.ensures;
+  power_table = c.powers.ensures;
+  out_len = room (goal.at.fill_rows-requires c).Else-not-is_product;
+}
 
 pub returns : goal.returns
 returns c =

@@ -1,6 +1,5 @@
 -- Where the points tell a polynomial, and there are as many bytes as the rows have, these are those of the basis polynomials. Assumes nothing.
 use native.Mathlib.Omega.{arith}
-use borrow.Author.Tests.{not-true, not-false}
 use lib.ListN.{length}
 use Rattle.base.proofs.Buffers.{areas-fit}
 use Rattle.coefficients.specs.Coefficients.{Readable}

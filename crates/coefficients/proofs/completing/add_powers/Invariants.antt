@@ -1,6 +1,6 @@
 -- After j turns the sum is the exponent of g times the power j, and the first j entries have theirs. Assumes nothing.
-use mathlib.Core.Path.{◌≡◌, sym, ap, ap₂, ◌∙◌}
-use Prim.Native.Nat.{ℕ, suc, ◌-◌, ◌≤◌, ◌<◌}
+use mathlib.Core.Path.{◌≡◌}
+use Prim.Native.Nat.{suc, ◌-◌, ◌≤◌, ◌<◌}
 use lib.ListN.{length, get_or}
 use Rattle.base.specs.Parts.{Filled}
 use Rattle.field.specs.Field.{add, mul, pow}

@@ -1,6 +1,6 @@
 -- After o turns the first o points have their share. Assumes nothing.
-use mathlib.Core.Path.{◌≡◌, ap, ◌∙◌}
-use Prim.Native.Nat.{ℕ, ◌-◌, ◌≤◌}
+use mathlib.Core.Path.{◌≡◌}
+use Prim.Native.Nat.{◌-◌, ◌≤◌}
 use lib.ListN.{length}
 use Rattle.coefficients.specs.Working.{with_share}
 use Rattle.coefficients.proofs.completing.add_row_share.Given as goal

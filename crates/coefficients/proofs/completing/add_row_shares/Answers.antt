@@ -1,8 +1,8 @@
-use Prim.Native.Nat.{◌+◌, ◌-◌, ◌*◌, ◌≤◌}
+use Prim.Native.Nat.{◌+◌, ◌*◌, ◌≤◌}
 use native.Mathlib.Omega.{arith}
 use lib.ListN.{length}
 use Rattle.base.proofs.Parts.{blocked-none, blocked-more, row_ends, length-part_of}
-use Rattle.coefficients.proofs.Shares.{entry, row-share, rows-shared}
+use Rattle.coefficients.proofs.Shares.{row-share, rows-shared}
 use Rattle.coefficients.proofs.completing.add_row_shares.Goals as goal
 use Rattle.coefficients.proofs.completing.add_row_shares.Goals.{In-loop-t}
 

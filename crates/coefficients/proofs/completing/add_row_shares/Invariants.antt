@@ -1,7 +1,7 @@
 -- After t turns the first t rows have their share. Assumes nothing.
-use Prim.Native.Nat.{◌+◌, ◌-◌, ◌*◌, ◌≤◌}
+use Prim.Native.Nat.{◌-◌, ◌≤◌}
 use Rattle.base.specs.Parts.{Blocked}
-use Rattle.coefficients.proofs.Shares.{entry, row-share, rows-shared}
+use Rattle.coefficients.proofs.Shares.{entry}
 use Rattle.coefficients.proofs.completing.add_row_shares.Given as goal
 
 abbrev pub invariant-loop-t : goal.invariant-loop-t

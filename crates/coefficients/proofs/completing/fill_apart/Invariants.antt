@@ -1,5 +1,5 @@
 -- After j turns the first j gains are found, each by the exponents of what it is made of. Assumes nothing.
-use Prim.Native.Nat.{ℕ, ◌-◌, ◌≤◌, ◌<◌}
+use Prim.Native.Nat.{◌-◌, ◌≤◌}
 use lib.ListN.{length, get_or}
 use Rattle.base.specs.Parts.{Filled}
 use Rattle.interpolation.specs.Lagrange.{basis_value}

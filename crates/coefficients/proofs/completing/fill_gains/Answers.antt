@@ -1,8 +1,7 @@
-use Prim.Native.Nat.{◌+◌, ◌-◌, ◌*◌, ◌≤◌}
+use Prim.Native.Nat.{◌+◌, ◌*◌, ◌≤◌}
 use native.Mathlib.Omega.{arith}
 use lib.ListN.{length, get_or}
 use Rattle.base.proofs.Parts.{blocked-none, blocked-more, row_ends, length-part_of}
-use Rattle.interpolation.specs.Lagrange.{basis_value}
 use Rattle.coefficients.specs.Working.{basis_value_rows}
 use Rattle.coefficients.proofs.Rows.{blocked-whole}
 use Rattle.coefficients.proofs.Gains.{row-gains}
@@ -34,11 +33,11 @@ fill_gain-requires c =
       log_table = s.requires.log_table;
       power_table = s.requires.power_table;
       findable = record {
-          formula = s.requires.carriable.formula;
-          weighed = s.requires.weighed;
-          nonzero = s.requires.carriable.nonzero l.t (omega arith);
-          room = length-part_of (length s.args.at.now) l.t l.gains (omega (arith, row-end (goal.at.fill_gain-requires c).In-loop-t, l.invariant.1.same));
-        };
+        formula = s.requires.carriable.formula;
+        weighed = s.requires.weighed;
+        nonzero = s.requires.carriable.nonzero l.t (omega arith);
+        room = length-part_of (length s.args.at.now) l.t l.gains (omega (arith, row-end (goal.at.fill_gain-requires c).In-loop-t, l.invariant.1.same));
+      };
     }
 
 pub loop-t-preserved : goal.loop-t-preserved

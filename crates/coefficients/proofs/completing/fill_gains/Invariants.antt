@@ -1,5 +1,5 @@
 -- After t turns the first t rows are found. Assumes nothing.
-use Prim.Native.Nat.{◌+◌, ◌-◌, ◌*◌, ◌≤◌}
+use Prim.Native.Nat.{◌-◌, ◌≤◌}
 use lib.ListN.{length, get_or}
 use Rattle.base.specs.Parts.{Blocked}
 use Rattle.interpolation.specs.Lagrange.{basis_value}

@@ -1,7 +1,7 @@
 use mathlib.Core.Path.{ap, ◌∙◌}
-use Prim.Native.Nat.{ℕ, ◌-◌, ◌≤◌}
+use Prim.Native.Nat.{ℕ}
 use native.Mathlib.Omega.{arith}
-use lib.ListN.{length, get_or}
+use lib.ListN.{get_or}
 use Rattle.base.specs.Seq.{tabulate}
 use Rattle.base.proofs.Filled.{filled_none, filled_more, filled-all}
 use Rattle.coefficients.specs.Working.{same, unit_row}

@@ -1,8 +1,8 @@
 -- After j turns the first j entries are written. Assumes nothing.
-use Prim.Native.Nat.{ℕ, ◌-◌, ◌≤◌}
+use Prim.Native.Nat.{◌-◌, ◌≤◌}
 use lib.ListN.{length, get_or}
 use Rattle.base.specs.Parts.{Filled}
-use Rattle.coefficients.specs.Working.{same, unit_row}
+use Rattle.coefficients.specs.Working.{same}
 use Rattle.coefficients.proofs.completing.fill_unit.Given as goal
 
 abbrev pub invariant-loop-j : goal.invariant-loop-j

@@ -3,7 +3,7 @@ use mathlib.Core.Path.{◌≡◌, sym, ap, ◌∙◌}
 use Prim.Native.Nat.{◌*◌}
 use lib.ListN.{length}
 use lib.Seq.{length-take-le}
-use Rattle.coefficients.proofs.Laws.{length-power_rows, first-length}
+use Rattle.coefficients.proofs.Laws.{length-power_rows}
 use Rattle.coefficients.proofs.Completion.{shared}
 use Rattle.coefficients.proofs.completing.share_within.Goals as goal
 use Rattle.coefficients.proofs.completing.share_within.Goals.{After-fill_rows}

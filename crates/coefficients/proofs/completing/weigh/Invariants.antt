@@ -1,7 +1,7 @@
 -- After i turns the first i weights are found. Assumes nothing.
-use mathlib.Core.Path.{◌≡◌, refl, subst}
-use Prim.Native.Nat.{ℕ, ◌-◌, ◌≤◌}
-use lib.ListN.{length, length-set}
+use mathlib.Core.Path.{◌≡◌}
+use Prim.Native.Nat.{◌-◌, ◌≤◌}
+use lib.ListN.{length}
 use Rattle.coefficients.specs.Working.{Weighed}
 use Rattle.coefficients.proofs.completing.weigh.Given as goal
 

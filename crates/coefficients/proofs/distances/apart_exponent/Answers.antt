@@ -1,6 +1,4 @@
-use Prim.Native.Nat.{suc, ◌+◌, ◌*◌, ◌-◌, ◌≤◌}
 use native.Mathlib.Omega.{arith}
-use Rattle.field.specs.Field.{mul, pow}
 use Rattle.coefficients.proofs.Gains.{power_small, apart_none, apart_more, apart-all}
 use Rattle.coefficients.proofs.distances.apart_exponent.Goals as goal
 

@@ -13,9 +13,9 @@ returns-then-x-d c = (omega arith, pow-zero 2 ∙ sym (factor-same c.args.x c.ar
 pub exponent-requires : goal.exponent-requires
 unfolding add
 exponent-requires c = record {
-      log_table = c.requires;
-      fact = λ z. c.if-x-d.false (add-zero-eq c.args.x c.args.d z);
-    }
+  log_table = c.requires;
+  fact = λ z. c.if-x-d.false (add-zero-eq c.args.x c.args.d z);
+}
 
 pub returns : goal.returns
 unfolding add

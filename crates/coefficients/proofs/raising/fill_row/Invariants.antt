@@ -1,5 +1,5 @@
 -- The powers of 00 are 00. Else after j turns x is the exponent of entry j - 1, and the first j entries are written. Assumes nothing.
-use mathlib.Core.Path.{◌≡◌, sym, ap, ◌∙◌}
+use mathlib.Core.Path.{◌≡◌}
 use Prim.Native.Nat.{suc, ◌-◌, ◌≤◌, ◌<◌}
 use lib.ListN.{length}
 use Rattle.base.specs.Parts.{Filled}

@@ -1,9 +1,8 @@
-use Prim.Native.Nat.{suc, ◌+◌, ◌-◌, ◌*◌, ◌≤◌}
+use Prim.Native.Nat.{◌+◌, ◌*◌, ◌≤◌}
 use native.Mathlib.Omega.{arith}
 use lib.ListN.{length, get_or}
-use Rattle.base.specs.Parts.{Blocked, part_of}
+use Rattle.base.specs.Parts.{part_of}
 use Rattle.base.proofs.Parts.{blocked-none, blocked-more, row_ends, length-part_of}
-use Rattle.field.specs.Field.{pow}
 use Rattle.coefficients.specs.Coefficients.{power_rows}
 use Rattle.coefficients.proofs.Rows.{row-powers, blocked-whole}
 use Rattle.coefficients.proofs.raising.fill_rows.Goals as goal

@@ -1,7 +1,7 @@
 -- After i turns the first i rows are the powers of their points. Assumes nothing.
-use Prim.Native.Nat.{suc, ◌+◌, ◌-◌, ◌*◌, ◌≤◌}
+use Prim.Native.Nat.{suc, ◌-◌, ◌≤◌}
 use lib.ListN.{length, get_or}
-use Rattle.base.specs.Parts.{Blocked, part_of}
+use Rattle.base.specs.Parts.{Blocked}
 use Rattle.field.specs.Field.{pow}
 use Rattle.coefficients.proofs.raising.fill_rows.Given as goal
 

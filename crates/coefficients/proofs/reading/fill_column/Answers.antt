@@ -12,7 +12,7 @@ use Rattle.interpolation.specs.Lagrange.{apart}
 use Rattle.coefficients.specs.Working.{product_at, basis}
 use Rattle.coefficients.proofs.Basis.{lead-first, lead-next, Climbed, climbed-none, climbed-here, climbed-more, climbed-on, climbed-all}
 use Rattle.coefficients.proofs.reading.fill_column.Goals as goal
-use Rattle.coefficients.proofs.reading.fill_column.Goals.{After-shared_slice_known-7-1}
+use Rattle.coefficients.proofs.reading.fill_column.Goals.{After-reduced-2}
 
 pub exponent-requires : goal.exponent-requires
 exponent-requires c =
@@ -32,7 +32,7 @@ apart_exponent-requires c =
       fact = r.tell.nonzero s.args.i s.requires.i_in_bounds;
     }
 
-module _ (c : After-shared_slice_known-7-1) where
+module _ (c : After-reduced-2) where
   abbrev points : List ℕ
   points = c.args.points.now
 
@@ -83,20 +83,20 @@ module _ (c : After-shared_slice_known-7-1) where
       climbed-more (length s.args.product.now) _ _ 0 _ _ _ _ s.requires.i_in_bounds s.requires.columned.some s.requires.columned.room first lead_is (climbed-none _ _ _)
 
 pub bounds-rows-i : goal.bounds-rows-i
-bounds-rows-i c = omega (arith, place c 0 c.requires.columned.some)
+bounds-rows-i c = omega (arith, place (goal.at.bounds-rows-i c).After-reduced-2 0 c.requires.columned.some)
 
 pub loop-j-init : goal.loop-j-init
-loop-j-init c = (omega arith, c.requires.columned.some, lead_is c, climbed-here _ _ _ _ _ (one c))
+loop-j-init c = (omega arith, c.requires.columned.some, lead_is (goal.at.loop-j-init c).After-reduced-2, climbed-here _ _ _ _ _ (one (goal.at.loop-j-init c).After-reduced-2))
 
 pub overflow_mul-rows : goal.overflow_mul-rows
-overflow_mul-rows c = omega (arith, place (goal.at.overflow_mul-rows c).After-shared_slice_known-7-1 c.loop-j.j (search rules), small (goal.at.overflow_mul-rows c).After-shared_slice_known-7-1)
+overflow_mul-rows c = omega (arith, place (goal.at.overflow_mul-rows c).After-reduced-2 c.loop-j.j (search rules), small (goal.at.overflow_mul-rows c).After-reduced-2)
 
 pub overflow_add-rows : goal.overflow_add-rows
-overflow_add-rows c = omega (arith, place (goal.at.overflow_add-rows c).After-shared_slice_known-7-1 c.loop-j.j (search rules), small (goal.at.overflow_add-rows c).After-shared_slice_known-7-1)
+overflow_add-rows c = omega (arith, place (goal.at.overflow_add-rows c).After-reduced-2 c.loop-j.j (search rules), small (goal.at.overflow_add-rows c).After-reduced-2)
 
 pub bounds-rows-j : goal.bounds-rows-j
 bounds-rows-j c =
-    let k = (goal.at.bounds-rows-j c).After-shared_slice_known-7-1 in
+    let k = (goal.at.bounds-rows-j c).After-reduced-2 in
     let l = c.loop-j in
     omega (arith, place k l.j (search rules), l.invariant.3.same, length-set k.args.rows.now k.args.i (lead k))
 
@@ -106,7 +106,7 @@ overflow_add-j c = let r = c.requires.columned in omega (arith, r.few, r.most)
 pub loop-j-preserved : goal.loop-j-preserved
 unfolding add
 loop-j-preserved c =
-    let k = (goal.at.loop-j-preserved c).After-shared_slice_known-7-1 in
+    let k = (goal.at.loop-j-preserved c).After-reduced-2 in
     let l = c.loop-j in
     let s = k in
     let ps = points k in
@@ -127,10 +127,10 @@ loop-j-preserved c =
 
 pub shape_of-rows : goal.shape_of-rows
 shape_of-rows c =
-    let k = (goal.at.shape_of-rows c).After-shared_slice_known-7-1 in
+    let k = (goal.at.shape_of-rows c).After-reduced-2 in
     c.loop-j.invariant.3.same ∙ length-set k.args.rows.now k.args.i (lead k)
 
 pub returns : goal.returns
 returns c =
     let l = c.loop-j in
-    climbed-all _ _ _ l.j _ _ (omega arith) (climbed-on _ _ 1 l.j _ _ l.rows (one (goal.at.returns c).After-shared_slice_known-7-1) l.invariant.3)
+    climbed-all _ _ _ l.j _ _ (omega arith) (climbed-on _ _ 1 l.j _ _ l.rows (one (goal.at.returns c).After-reduced-2) l.invariant.3)

@@ -1,9 +1,9 @@
 -- The first entry by exponents, and after j turns the first j entries, each from the one before. Assumes nothing.
-use mathlib.Core.Path.{◌≡◌, refl, sym, ap, ◌∙◌, subst}
-use Prim.Native.Nat.{ℕ, suc, ◌+◌, ◌-◌, ◌*◌, ◌≤◌, ◌<◌}
-use lib.ListN.{length, get_or, set, length-set}
-use Rattle.coefficients.specs.Working.{product_at, basis}
-use Rattle.coefficients.proofs.Basis.{lead-first, lead-next, Climbed, climbed-none, climbed-here, climbed-more, climbed-on, climbed-all}
+use mathlib.Core.Path.{◌≡◌}
+use Prim.Native.Nat.{◌-◌, ◌≤◌, ◌<◌}
+use lib.ListN.{length}
+use Rattle.coefficients.specs.Working.{basis}
+use Rattle.coefficients.proofs.Basis.{Climbed}
 use Rattle.coefficients.proofs.reading.fill_column.Given as goal
 
 abbrev pub invariant-loop-j : goal.invariant-loop-j

@@ -1,8 +1,8 @@
 -- After i turns the first i columns are there. Assumes nothing.
-use mathlib.Core.Path.{◌≡◌, refl, sym, ◌∙◌, subst}
-use Prim.Native.Nat.{ℕ, ◌-◌, ◌≤◌}
+use mathlib.Core.Path.{◌≡◌}
+use Prim.Native.Nat.{◌-◌, ◌≤◌}
 use lib.ListN.{length}
-use Rattle.coefficients.specs.Working.{BasisRows, Columned}
+use Rattle.coefficients.specs.Working.{BasisRows}
 use Rattle.coefficients.proofs.reading.fill_columns.Given as goal
 
 abbrev pub invariant-loop-i : goal.invariant-loop-i

@@ -1,7 +1,7 @@
 -- After d turns the product of the first d factors is there, as far as it goes. Assumes nothing.
-use mathlib.Core.Path.{◌≡◌, refl, ◌∙◌, subst}
-use Prim.Native.Nat.{ℕ, ◌-◌, ◌≤◌}
-use lib.ListN.{length, length-set}
+use mathlib.Core.Path.{◌≡◌}
+use Prim.Native.Nat.{◌-◌, ◌≤◌}
+use lib.ListN.{length}
 use Rattle.coefficients.specs.Working.{Lowest}
 use Rattle.coefficients.proofs.reading.multiply_out.Given as goal
 

@@ -1,10 +1,10 @@
 use mathlib.Core.Path.{ap}
-use Prim.Native.Nat.{◌-◌, ◌<◌}
+use Prim.Native.Nat.{◌-◌}
 use native.Mathlib.Omega.{arith}
 use borrow.Author.Rules.{rules}
-use lib.ListN.{length, get_or, length-set}
-use Rattle.field.specs.Field.{add, pow}
-use Rattle.coefficients.proofs.Basis.{Widening, widening-none, widening-more, widened}
+use lib.ListN.{get_or, length-set}
+use Rattle.field.specs.Field.{add}
+use Rattle.coefficients.proofs.Basis.{widening-none, widening-more, widened}
 use Rattle.coefficients.proofs.reading.widen.Goals as goal
 
 pub loop-j-init : goal.loop-j-init

@@ -1,8 +1,8 @@
 -- From the top down: the entries above j are those of the product, the others as they were. Assumes nothing.
-use Prim.Native.Nat.{◌-◌, ◌<◌}
-use lib.ListN.{length, get_or, length-set}
-use Rattle.field.specs.Field.{add, pow}
-use Rattle.coefficients.proofs.Basis.{Widening, widening-none, widening-more, widened}
+use Prim.Native.Nat.{◌<◌}
+use lib.ListN.{length}
+use Rattle.field.specs.Field.{pow}
+use Rattle.coefficients.proofs.Basis.{Widening}
 use Rattle.coefficients.proofs.reading.widen.Given as goal
 
 abbrev pub invariant-loop-j : goal.invariant-loop-j
