@@ -1,7 +1,6 @@
 -- The list that is lent is that of the points of the nodes 1, .., n. Assumes nothing.
-use mathlib.Core.Path.{refl, sym}
+use mathlib.Core.Path.{refl}
 use native.Mathlib.Omega.{arith}
-use lib.Seq.{length-take-le}
 use Rattle.node_rows.proofs.Laws.{encodes-made}
 use Rattle.node_rows.proofs.encoding_rows.Goals as goal
 

@@ -1,5 +1,5 @@
 -- After j turns the first j entries are the points of their nodes. Assumes nothing.
-use Prim.Native.Nat.{ℕ, suc, ◌-◌, ◌≤◌}
+use Prim.Native.Nat.{suc, ◌-◌, ◌≤◌}
 use Rattle.base.specs.Parts.{Filled}
 use Rattle.code.specs.Code.{point}
 use Rattle.node_rows.proofs.first_points.Given as goal
