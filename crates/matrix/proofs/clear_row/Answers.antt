@@ -1,6 +1,7 @@
 -- Row j stays; to another row its multiple is added that makes column j zero. Assumes nothing.
 use Prim.Native.Nat.{◌+◌, ◌*◌}
 use native.Mathlib.Omega.{arith}
+use borrow.Author.Rules.{rules}
 use Rattle.matrix.proofs.Rewriting.{by_copy}
 use Rattle.matrix.proofs.RowOperations.{cleared-none, cleared-added}
 use Rattle.matrix.proofs.clear_row.Goals as goal
@@ -11,7 +12,7 @@ returns-then-i-j c =
     let t = a in
     let k = t in
     let s = k in
-    cleared-added _ _ _ _ _ (omega arith) (omega arith) t.if-i-j.true (omega (arith, k.slice_known-1.given (s.args.i * 64 + s.args.j))) s.requires.1
+    cleared-added _ _ _ _ _ (omega arith) (omega arith) t.if-i-j.true (search rules) s.requires.1
     (by_copy _ _ _ _ _ _ _ s.requires.2 a.add_multiple.ensures)
 
 pub returns-else-i-j : goal.returns-else-i-j

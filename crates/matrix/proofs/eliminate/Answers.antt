@@ -6,7 +6,7 @@ use Rattle.matrix.proofs.RowOperations.{reduced-none, reduced-then, reduced-less
 use Rattle.matrix.proofs.eliminate.Goals as goal
 
 pub loop-j-init : goal.loop-j-init
-loop-j-init c = (omega arith, refl, reduced-none _ _ 0 (λ i k hi hk. omega arith), λ i. omega (arith, c.slice_known-1.given i))
+loop-j-init c = (omega arith, refl, reduced-none _ _ 0 (λ i k hi hk. omega arith), λ i. omega (arith, c.type_inv.w i))
 
 pub returns-in_default : goal.returns-in_default
 returns-in_default c =
@@ -29,7 +29,7 @@ reduce-requires c =
 pub loop-j-preserved : goal.loop-j-preserved
 loop-j-preserved c =
     let f = c in
-    (omega arith, search rules, reduced-then _ _ _ _ _ _ f.loop-j.invariant.2 c.reduce.ensures, λ i. omega (arith, c.slice_known-in-loop-j-1.given i))
+    (omega arith, search rules, reduced-then _ _ _ _ _ _ f.loop-j.invariant.2 c.reduce.ensures, λ i. omega (arith, c.type_inv.w i))
 
 pub returns : goal.returns
 returns c = reduced-less _ _ _ _ _ (omega arith) c.loop-j.invariant.2

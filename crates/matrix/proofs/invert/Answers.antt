@@ -40,7 +40,7 @@ pub returns-in-Stuck : goal.returns-in-Stuck
 returns-in-Stuck c =
     let o : Open c.args.s c.args.m.now c.args.out.now =
     record { low = omega arith; high = omega arith; matrix = c.if-m-area.false; buffer = c.if-out-area.false } in
-    let known : Bytes c.args.m.now = λ i. omega (arith, c.shared_slice_known-1.given i) in
+    let known : Bytes c.args.m.now = λ i. omega (arith, c.type_inv.m i) in
     let stuck = c.in-Stuck.ensures in
     answered-singular _ _ _ o _ (dependent _ _ _ _ _ c.load.ensures stuck known)
 
@@ -51,4 +51,4 @@ returns c =
     let whole = subst (Ended _ _ _) c.in_default.is c.eliminate.ensures in
     answered-inverse _ _ _ o _
     (inverted _ _ _ _ _ c.load.ensures whole c.store.ensures (c.store.auto.out ∙ o.buffer)
-    (λ i. omega (arith, c.slice_known-2-1.given i)))
+    (λ i. omega (arith, c.type_inv.out i)))
