@@ -1,13 +1,13 @@
-use mathlib.Core.Path.{◌≡◌, refl, sym, ◌∙◌, subst⁻¹}
+use mathlib.Core.Path.{refl, sym, ◌∙◌, subst⁻¹}
 use mathlib.Core.Logic.{⊎_elim}
-use Prim.Native.Nat.{ℕ, ◌+◌, ◌-◌, ◌^◌, ◌≤◌, ◌<◌}
+use Prim.Native.Nat.{ℕ, ◌+◌, ◌≤◌, ◌<◌}
 use native.Mathlib.Omega.{arith}
-use lib.ListN.{length, length-replicate}
+use lib.ListN.{length-replicate}
 use Rattle.base.proofs.Cases.{lt-or}
 use Rattle.products.specs.Blocks.{Inside}
 use Rattle.tiles.proofs.Choices.{tabled-one}
 use Rattle.tiles.proofs.Groups.{one-group}
-use Rattle.tiles.proofs.Spans.{picks-reach, row-product, block_at, Tiled, tiled-none, tiled-more, tiled-all}
+use Rattle.tiles.proofs.Spans.{picks-reach, row-product, tiled-none, tiled-more, tiled-all}
 use Rattle.kernels.proofs.short.add_short.Goals as goal
 
 pub fill_picks-requires : goal.fill_picks-requires

@@ -1,8 +1,8 @@
 -- After each turn the bytes before `at` of every block have the rows added that go to it, the others are as they were. Assumes nothing.
-use mathlib.Core.Path.{◌≡◌, refl, sym, ◌∙◌, subst⁻¹}
-use Prim.Native.Nat.{ℕ, ◌+◌, ◌-◌, ◌^◌, ◌≤◌, ◌<◌}
-use lib.ListN.{length, length-replicate}
-use Rattle.tiles.proofs.Spans.{picks-reach, row-product, block_at, Tiled, tiled-none, tiled-more, tiled-all}
+use mathlib.Core.Path.{◌≡◌}
+use Prim.Native.Nat.{◌-◌, ◌^◌, ◌≤◌, ◌<◌}
+use lib.ListN.{length}
+use Rattle.tiles.proofs.Spans.{block_at, Tiled}
 use Rattle.kernels.proofs.short.add_short.Given as goal
 
 abbrev pub invariant-loop-at : goal.invariant-loop-at

@@ -1,7 +1,7 @@
 -- After s turns the tile holds what the first s bits give; each turn adds the one entry that its pick names. Assumes nothing.
-use mathlib.Core.Path.{◌≡◌, sym, ap, ◌∙◌}
-use Prim.Native.Nat.{ℕ, ◌+◌, ◌-◌, ◌*◌, ◌≤◌, ◌<◌}
-use Rattle.base.specs.Seq.{tabulate, cell}
+use mathlib.Core.Path.{◌≡◌}
+use Prim.Native.Nat.{◌-◌, ◌≤◌}
+use Rattle.base.specs.Seq.{tabulate}
 use Rattle.tiles.specs.Tiling.{by_bits}
 use Rattle.kernels.proofs.short.add_short_row.Given as goal
 

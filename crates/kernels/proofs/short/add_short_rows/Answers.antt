@@ -1,5 +1,5 @@
 use mathlib.Core.Path.{subst}
-use Prim.Native.Nat.{ℕ, ◌+◌, ◌-◌, ◌*◌, ◌≤◌}
+use Prim.Native.Nat.{ℕ, ◌+◌, ◌*◌, ◌≤◌}
 use native.Mathlib.Omega.{arith}
 use lib.ListN.{length}
 use Rattle.products.specs.Blocks.{Spanned}
@@ -17,21 +17,21 @@ pub overflow_mul-start : goal.overflow_mul-start
 overflow_mul-start c =
     let a = c.args in
     let inside : c.wide.result * a.b + a.at + a.w ≤ length c.loop-i.out =
-        stretch-ends a.b a.at a.w a.targets.now c.wide.ensures c.loop-i.invariant.1.same c.requires.w_bound.0 (omega arith) c.requires.inside in
+    stretch-ends a.b a.at a.w a.targets.now c.wide.ensures c.loop-i.invariant.1.same c.requires.w_bound.0 (omega arith) c.requires.inside in
     omega (arith, inside)
 
 pub overflow_add-start : goal.overflow_add-start
 overflow_add-start c =
     let a = c.args in
     let inside : c.wide.result * a.b + a.at + a.w ≤ length c.loop-i.out =
-        stretch-ends a.b a.at a.w a.targets.now c.wide.ensures c.loop-i.invariant.1.same c.requires.w_bound.0 (omega arith) c.requires.inside in
+    stretch-ends a.b a.at a.w a.targets.now c.wide.ensures c.loop-i.invariant.1.same c.requires.w_bound.0 (omega arith) c.requires.inside in
     omega (arith, inside)
 
 pub overflow_add-end : goal.overflow_add-end
 overflow_add-end c =
     let a = c.args in
     let inside : c.wide.result * a.b + a.at + a.w ≤ length c.loop-i.out =
-        stretch-ends a.b a.at a.w a.targets.now c.wide.ensures c.loop-i.invariant.1.same c.requires.w_bound.0 (omega arith) c.requires.inside in
+    stretch-ends a.b a.at a.w a.targets.now c.wide.ensures c.loop-i.invariant.1.same c.requires.w_bound.0 (omega arith) c.requires.inside in
     omega (arith, inside)
 
 pub slice_bounds-add_short_row-end : goal.slice_bounds-add_short_row-end
@@ -48,7 +48,7 @@ loop-i-preserved c =
     let l = c.loop-i in
     let fit = c.requires.w_bound in
     let inside : c.wide.result * a.b + a.at + a.w ≤ length l.out =
-        stretch-ends a.b a.at a.w a.targets.now c.wide.ensures l.invariant.1.same fit.0 (omega arith) c.requires.inside in
+    stretch-ends a.b a.at a.w a.targets.now c.wide.ensures l.invariant.1.same fit.0 (omega arith) c.requires.inside in
     (omega arith, row-spanned _ _ _ _ _ _ fit.0 16 fit.1 l.i c.wide.result l.out _ c.wide.ensures inside c.add_short_row.ensures l.invariant.1)
 
 pub shape_of-out : goal.shape_of-out

@@ -1,5 +1,5 @@
 -- After i turns the first i rows have their span added to their targets. Assumes nothing.
-use Prim.Native.Nat.{ℕ, ◌+◌, ◌-◌, ◌*◌, ◌≤◌}
+use Prim.Native.Nat.{◌-◌, ◌≤◌}
 use lib.ListN.{length}
 use Rattle.products.specs.Blocks.{Spanned}
 use Rattle.tiles.specs.Tiling.{by_bits}

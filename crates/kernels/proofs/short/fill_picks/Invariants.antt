@@ -1,5 +1,5 @@
 -- After i turns the first i rows have their picks. Assumes nothing.
-use Prim.Native.Nat.{ℕ, ◌+◌, ◌-◌, ◌*◌, ◌≤◌}
+use Prim.Native.Nat.{◌-◌, ◌≤◌}
 use Rattle.tiles.specs.Tiling.{Picked}
 use Rattle.kernels.proofs.short.fill_picks.Given as goal
 

@@ -9,7 +9,7 @@ use Rattle.base.specs.Parts.{part_of, put_block}
 use Rattle.base.proofs.Parts.{length-part_of, put_block-length}
 use Rattle.products.specs.Blocks.{Inside}
 use Rattle.products.proofs.Stretches.{stretch-ends, stretch, length-stretch, stretch-cell}
-use Rattle.tiles.specs.Tiling.{tile_at, Chosen}
+use Rattle.tiles.specs.Tiling.{tile_at}
 use Rattle.tiles.proofs.Choices.{tile-byte, chosen_none, chosen_more, chosen-all}
 use Rattle.kernels.proofs.short.fill_short.Goals as goal
 

@@ -1,7 +1,7 @@
 -- After each turn the table has the sums over the columns from t on. Assumes nothing.
-use mathlib.Core.Path.{◌≡◌, refl, sym, ap, ◌∙◌}
-use Prim.Native.Nat.{ℕ, suc, ◌+◌, ◌-◌, ◌*◌, ◌^◌, ◌≤◌}
-use lib.ListN.{length, get_or}
+use mathlib.Core.Path.{◌≡◌}
+use Prim.Native.Nat.{◌+◌, ◌-◌, ◌^◌, ◌≤◌}
+use lib.ListN.{length}
 use Rattle.tiles.specs.Tiling.{tile_at, Chosen}
 use Rattle.kernels.proofs.short.fill_short.Given as goal
 

@@ -1,5 +1,5 @@
 -- After m turns the entries below half + m are there. Assumes nothing.
-use Prim.Native.Nat.{ℕ, ◌-◌, ◌≤◌}
+use Prim.Native.Nat.{◌-◌, ◌≤◌}
 use Rattle.tiles.specs.Tiling.{Raised}
 use Rattle.kernels.proofs.short.raise_short.Given as goal
 

@@ -1,7 +1,6 @@
 use mathlib.Core.Path.{subst, subst⁻¹}
-use Prim.Native.Nat.{ℕ, ◌+◌, ◌-◌, ◌*◌, ◌≤◌}
+use Prim.Native.Nat.{ℕ, ◌*◌}
 use native.Mathlib.Omega.{arith}
-use lib.ListN.{length}
 use Rattle.products.proofs.Stretches.{length-stretch}
 use Rattle.tiles.specs.Tiling.{Grouped, Picked}
 use Rattle.tiles.proofs.PickRows.{picked_none, picked_more}

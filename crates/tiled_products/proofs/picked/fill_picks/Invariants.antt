@@ -1,6 +1,6 @@
 -- After i turns the first i rows have their picks. Assumes nothing.
-use Prim.Native.Nat.{ℕ, ◌+◌, ◌-◌, ◌*◌, ◌≤◌}
-use Rattle.tiles.specs.Tiling.{Grouped, Picked}
+use Prim.Native.Nat.{◌-◌, ◌≤◌}
+use Rattle.tiles.specs.Tiling.{Picked}
 use Rattle.tiled_products.proofs.picked.fill_picks.Given as goal
 
 abbrev pub invariant-loop-i : goal.invariant-loop-i

@@ -1,5 +1,5 @@
 use mathlib.Core.Path.{◌≡◌, refl, subst}
-use Prim.Native.Nat.{ℕ, ◌+◌, ◌-◌, ◌*◌, ◌≤◌}
+use Prim.Native.Nat.{ℕ, ◌+◌, ◌*◌, ◌≤◌}
 use native.Mathlib.Omega.{arith}
 use lib.ListN.{length}
 use Rattle.products.proofs.Stretches.{length-stretch}
@@ -46,7 +46,7 @@ loop-g-preserved c =
     let room : l.g * 256 + s.i * 8 + 8 ≤ length l.picks = omega (arith, c.requires.i_bound.1 l.g (omega arith), l.invariant.1.same) in
     let ends : l.g * s.size + r ≤ length s.coeffs.now = omega (arith, c.requires.grouped.begins l.g (omega arith)) in
     let count : r ≡ columns s.size (length s.coeffs.now) l.g =
-        columns-are _ _ _ _ c.shorter.ensures.upper_bound c.shorter.ensures.upper_bound_2 c.shorter.ensures.lower_bound in
+    columns-are _ _ _ _ c.shorter.ensures.upper_bound c.shorter.ensures.upper_bound_2 c.shorter.ensures.lower_bound in
     let few : r ≤ 5 = omega (arith, c.requires.grouped.few) in
     let lent = length-stretch (l.g * 256 + s.i * 8) 8 l.picks room in
     let put = c.put_picks in (

@@ -1,6 +1,6 @@
 -- After g turns the first g groups have the picks of this row. Assumes nothing.
-use Prim.Native.Nat.{ℕ, ◌+◌, ◌-◌, ◌*◌, ◌≤◌}
-use Rattle.tiles.specs.Tiling.{columns, RowPicked}
+use Prim.Native.Nat.{◌-◌, ◌≤◌}
+use Rattle.tiles.specs.Tiling.{RowPicked}
 use Rattle.tiled_products.proofs.picked.fill_row.Given as goal
 
 abbrev pub invariant-loop-g : goal.invariant-loop-g

@@ -1,5 +1,5 @@
 -- After g turns the entries of the first g groups are summed, or those of all. Assumes nothing.
-use Prim.Native.Nat.{ℕ, ◌-◌, ◌≤◌, min}
+use Prim.Native.Nat.{◌-◌, ◌≤◌, min}
 use Rattle.tiles.specs.Tiling.{Gathered}
 use Rattle.tiled_products.proofs.rows.add_picked.Given as goal
 

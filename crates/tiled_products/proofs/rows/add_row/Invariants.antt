@@ -1,6 +1,6 @@
 -- After s turns the tile holds what the first s bits give. Assumes nothing.
-use mathlib.Core.Path.{◌≡◌, sym, ap, ◌∙◌}
-use Prim.Native.Nat.{ℕ, ◌-◌, ◌≤◌}
+use mathlib.Core.Path.{◌≡◌}
+use Prim.Native.Nat.{◌-◌, ◌≤◌}
 use Rattle.base.specs.Seq.{tabulate}
 use Rattle.tiles.specs.Tiling.{by_bits}
 use Rattle.tiled_products.proofs.rows.add_row.Given as goal

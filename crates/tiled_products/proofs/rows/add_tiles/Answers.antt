@@ -1,13 +1,12 @@
 use mathlib.Core.Path.{◌≡◌, refl, ◌∙◌, subst⁻¹}
 use mathlib.Core.Logic.{⊎_elim}
-use Prim.Native.Nat.{ℕ, ◌+◌, ◌-◌, ◌^◌, ◌≤◌, ◌<◌}
+use Prim.Native.Nat.{ℕ, ◌+◌, ◌≤◌, ◌<◌}
 use native.Mathlib.Omega.{arith}
-use lib.ListN.{length}
 use Rattle.base.proofs.Cases.{lt-or}
 use Rattle.products.specs.Blocks.{Inside}
 use Rattle.tiles.specs.Tiling.{Grouped, groups_of, size_of}
 use Rattle.tiles.proofs.Groups.{few-groups, grouping}
-use Rattle.tiles.proofs.Spans.{picks-reach, row-product, block_at, Tiled, tiled-none, tiled-more, tiled-all}
+use Rattle.tiles.proofs.Spans.{picks-reach, row-product, tiled-none, tiled-more, tiled-all}
 use Rattle.tiled_products.proofs.rows.add_tiles.Goals as goal
 
 pub size_of-size-requires : goal.size_of-size-requires

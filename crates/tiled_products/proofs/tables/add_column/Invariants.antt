@@ -1,5 +1,5 @@
 -- After m turns the entries below half + m are there. Assumes nothing.
-use Prim.Native.Nat.{ℕ, ◌-◌, ◌≤◌}
+use Prim.Native.Nat.{◌-◌, ◌≤◌}
 use Rattle.tiles.specs.Tiling.{Raised}
 use Rattle.tiled_products.proofs.tables.add_column.Given as goal
 

@@ -1,5 +1,5 @@
 use mathlib.Core.Path.{◌≡◌, ◌∙◌, subst, subst⁻¹}
-use Prim.Native.Nat.{ℕ, ◌+◌, ◌-◌, ◌*◌, ◌≤◌}
+use Prim.Native.Nat.{ℕ, ◌+◌, ◌*◌, ◌≤◌}
 use native.Mathlib.Omega.{arith}
 use lib.ListN.{length}
 use Rattle.products.proofs.Stretches.{length-stretch}
@@ -43,15 +43,14 @@ fill_group-requires c =
     let ends : first + r ≤ length s.places.now = omega (arith, c.requires.grouped.begins l.g (omega arith)) in
     let room : l.g * 2048 + 2048 ≤ length l.table = omega (arith, l.invariant.1.same) in
     let count : r ≡ columns s.size (length s.places.now) l.g =
-        columns-are _ _ _ _ c.shorter.ensures.upper_bound c.shorter.ensures.upper_bound_2 c.shorter.ensures.lower_bound in
+    columns-are _ _ _ _ c.shorter.ensures.upper_bound c.shorter.ensures.upper_bound_2 c.shorter.ensures.lower_bound in
     record {
       inside = group-inside s.b first r _ s.places.now ends c.requires.inside;
       w_bound = c.requires.w_bound;
-      places_len_bound =
-          (
-            subst⁻¹ (λ (k : ℕ). k ≤ 5) (length-stretch first r s.places.now ends ∙ count) (columns-most c.requires.grouped _),
-            length-stretch (l.g * 2048) 2048 l.table room,
-          );
+      places_len_bound = (
+        subst⁻¹ (λ (k : ℕ). k ≤ 5) (length-stretch first r s.places.now ends ∙ count) (columns-most c.requires.grouped _),
+        length-stretch (l.g * 2048) 2048 l.table room,
+      );
     }
 
 pub loop-g-preserved : goal.loop-g-preserved
@@ -63,7 +62,7 @@ loop-g-preserved c =
     let ends : first + r ≤ length s.places.now = omega (arith, c.requires.grouped.begins l.g (omega arith)) in
     let room : l.g * 2048 + 2048 ≤ length l.table = omega (arith, l.invariant.1.same) in
     let count : r ≡ columns s.size (length s.places.now) l.g =
-        columns-are _ _ _ _ c.shorter.ensures.upper_bound c.shorter.ensures.upper_bound_2 c.shorter.ensures.lower_bound in (
+    columns-are _ _ _ _ c.shorter.ensures.upper_bound c.shorter.ensures.upper_bound_2 c.shorter.ensures.lower_bound in (
       omega arith,
       tabled-more _ _ _ _ _ _ _ c.requires.grouped l.g r l.table _ room (omega arith) ends count
           (length-stretch (l.g * 2048) 2048 l.table room) c.fill_group.ensures l.invariant.1,

@@ -1,6 +1,6 @@
 -- After g turns the first g groups have their tables. Assumes nothing.
-use Prim.Native.Nat.{ℕ, ◌+◌, ◌-◌, ◌*◌, ◌≤◌}
-use Rattle.tiles.specs.Tiling.{columns, Tabled}
+use Prim.Native.Nat.{◌-◌, ◌≤◌}
+use Rattle.tiles.specs.Tiling.{Tabled}
 use Rattle.tiled_products.proofs.tables.fill_groups.Given as goal
 
 abbrev pub invariant-loop-g : goal.invariant-loop-g
