@@ -1,0 +1,16 @@
+-- The test is on the number of powers; at most 32 nodes have as many. Assumes nothing.
+use native.Mathlib.Omega.{arith}
+use Rattle.encoding.proofs.PowerBlocks.{powers-most, area-is}
+use Rattle.encoding.proofs.encode_parts.Goals as goal
+
+pub overflow_mul-a : goal.overflow_mul-a
+overflow_mul-a c = omega (arith, area-is c.args.a _ _ c.requires c.working.result c.working.ensures, powers-most c.args.a _ _ c.requires)
+
+pub encode_parts_128-requires : goal.encode_parts_128-requires
+encode_parts_128-requires c = record {
+  raisable = c.requires;
+  a_bound = omega (arith, area-is c.args.a _ _ c.requires c.working.result c.working.ensures, c.if-a-working-le128.true);
+}
+
+pub encode_within-requires : goal.encode_within-requires
+encode_within-requires c = record { raisable = c.requires; a_in_bounds = powers-most c.args.a _ _ c.requires }
