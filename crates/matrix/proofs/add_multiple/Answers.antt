@@ -10,14 +10,13 @@ loop-k-init c = (omega arith, refl, rewritten-none _ _ _)
 
 pub loop-k-preserved : goal.loop-k-preserved
 unfolding add
-loop-k-preserved c =
-    let l = c in (
-      omega arith,
-      simp length-set (omega arith),
-      rewritten-more _ _ _ l.loop-k.k _ _ (omega arith)
-          (added-entry _ _ l.loop-k.k c.times.result _ _ _ (λ k. get_or l.args.row.now k 0) l.loop-k.invariant.2 c.times.ensures)
-          l.loop-k.invariant.2,
-    )
+loop-k-preserved c = (
+  omega arith,
+  simp length-set (omega arith),
+  rewritten-more _ _ _ c.loop-k.k _ _ (omega arith)
+      (added-entry _ _ c.loop-k.k c.times.result _ _ _ (λ k. get_or c.args.row.now k 0) c.loop-k.invariant.2 c.times.ensures)
+      c.loop-k.invariant.2,
+)
 
 pub returns : goal.returns
 returns c = rewritten-all _ _ (omega arith) (omega arith) c.loop-k.invariant.2

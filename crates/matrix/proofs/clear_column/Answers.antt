@@ -8,14 +8,12 @@ pub loop-i-init : goal.loop-i-init
 loop-i-init c = (omega arith, refl, c.copy_row.ensures, below_none _ _ _ c.requires.1.units)
 
 pub clear_row-requires : goal.clear_row-requires
-clear_row-requires c =
-    let l = c in
-    let s = l in (
-      search rules,
-      still-ready _ _ _ _ _ s.requires.1 l.loop-i.invariant.3,
-      still-copy _ _ _ _ _ _ l.loop-i.invariant.2 l.loop-i.invariant.3,
-      omega arith,
-    )
+clear_row-requires c = (
+  search rules,
+  still-ready _ _ _ _ _ c.requires.1 c.loop-i.invariant.3,
+  still-copy _ _ _ _ _ _ c.loop-i.invariant.2 c.loop-i.invariant.3,
+  omega arith,
+)
 
 pub loop-i-preserved : goal.loop-i-preserved
 loop-i-preserved c =

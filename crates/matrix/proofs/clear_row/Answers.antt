@@ -1,5 +1,4 @@
 -- Row j stays; to another row its multiple is added that makes column j zero. Assumes nothing.
-use Prim.Native.Nat.{◌+◌, ◌*◌}
 use native.Mathlib.Omega.{arith}
 use borrow.Author.Rules.{rules}
 use Rattle.matrix.proofs.Rewriting.{by_copy}
@@ -8,14 +7,9 @@ use Rattle.matrix.proofs.clear_row.Goals as goal
 
 pub returns-then-i-j : goal.returns-then-i-j
 returns-then-i-j c =
-    let a = c in
-    let t = a in
-    let k = t in
-    let s = k in
-    cleared-added _ _ _ _ _ (omega arith) (omega arith) t.if-i-j.true (search rules) s.requires.1
-    (by_copy _ _ _ _ _ _ _ s.requires.2 a.add_multiple.ensures)
+    cleared-added _ _ _ _ _ (omega arith) (omega arith) c.if-i-j.true (search rules) c.requires.1
+    (by_copy _ _ _ _ _ _ _ c.requires.2 c.add_multiple.ensures)
 
 pub returns-else-i-j : goal.returns-else-i-j
 returns-else-i-j c =
-    let s = c in
-    cleared-none _ _ _ _ s.requires.1 c.if-i-j.false
+    cleared-none _ _ _ _ c.requires.1 c.if-i-j.false

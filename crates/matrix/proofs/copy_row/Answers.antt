@@ -9,12 +9,11 @@ pub loop-k-init : goal.loop-k-init
 loop-k-init c = (omega arith, refl, λ h hh. omega arith)
 
 pub loop-k-preserved : goal.loop-k-preserved
-loop-k-preserved c =
-    let l = c in (
-      omega arith,
-      simp length-set (omega arith),
-      copied_more l.loop-k.k _ l.loop-k.row (grid l.args.w.now l.args.p) (omega arith) refl l.loop-k.invariant.2,
-    )
+loop-k-preserved c = (
+  omega arith,
+  simp length-set (omega arith),
+  copied_more c.loop-k.k _ c.loop-k.row (grid c.args.w.now c.args.p) (omega arith) refl c.loop-k.invariant.2,
+)
 
 pub returns : goal.returns
 returns c =

@@ -10,26 +10,23 @@ loop-j-init c = (omega arith, refl, reduced-none _ _ 0 (λ i k hi hk. omega arit
 
 pub returns-in_default : goal.returns-in_default
 returns-in_default c =
-    let f = c in
     record {
       within = omega arith;
-      reduced = f.loop-j.invariant.2;
-      missing = subst (Found _ _ _) c.in_default.is f.find_pivot.ensures;
-      bytes = f.loop-j.invariant.3;
+      reduced = c.loop-j.invariant.2;
+      missing = subst (Found _ _ _) c.in_default.is c.find_pivot.ensures;
+      bytes = c.loop-j.invariant.3;
     }
 
 pub reduce-requires : goal.reduce-requires
-reduce-requires c =
-    let f = c in (
-      search rules,
-      f.loop-j.invariant.2.units,
-      c.in-At.ensures,
-    )
+reduce-requires c = (
+  search rules,
+  c.loop-j.invariant.2.units,
+  c.in-At.ensures,
+)
 
 pub loop-j-preserved : goal.loop-j-preserved
 loop-j-preserved c =
-    let f = c in
-    (omega arith, search rules, reduced-then _ _ _ _ _ _ f.loop-j.invariant.2 c.reduce.ensures, λ i. omega (arith, c.type_inv.w i))
+    (omega arith, search rules, reduced-then _ _ _ _ _ _ c.loop-j.invariant.2 c.reduce.ensures, λ i. omega (arith, c.type_inv.w i))
 
 pub returns : goal.returns
 returns c = reduced-less _ _ _ _ _ (omega arith) c.loop-j.invariant.2

@@ -20,12 +20,11 @@ bounds-m-i c = omega (arith, place c.args.s c.args.i c.loop-k.k c.requires.0.sid
 
 pub loop-k-preserved : goal.loop-k-preserved
 unfolding entry
-loop-k-preserved c =
-    let l = c in (
-      omega arith,
-      simp length-set (omega arith),
-      rewritten-more _ _ _ l.loop-k.k _ _ (omega arith) refl l.loop-k.invariant.2,
-    )
+loop-k-preserved c = (
+  omega arith,
+  simp length-set (omega arith),
+  rewritten-more _ _ _ c.loop-k.k _ _ (omega arith) refl c.loop-k.invariant.2,
+)
 
 pub returns : goal.returns
 returns c = rewritten-all _ _ (omega arith) (omega arith) c.loop-k.invariant.2

@@ -6,16 +6,12 @@ use Rattle.matrix.proofs.reduce.Goals as goal
 
 pub clear_column-requires : goal.clear_column-requires
 clear_column-requires c =
-    let r = c in
-    let i = r in
-    let a = i.raise.ensures in
-    let q = scaled-pivot _ _ _ _ _ (omega arith) (omega arith) a.nonzero i.inverse-factor.ensures a.reduced.units r.scale_row.ensures in
+    let a = c.raise.ensures in
+    let q = scaled-pivot _ _ _ _ _ (omega arith) (omega arith) a.nonzero c.inverse-factor.ensures a.reduced.units c.scale_row.ensures in
     (search rules, record { within = omega arith; units = q.0.units; pivot = q.1 })
 
 pub returns : goal.returns
 returns c =
-    let r = c in
-    let i = r in
-    let a = i.raise.ensures in
-    let q = scaled-pivot _ _ _ _ _ (omega arith) (omega arith) a.nonzero i.inverse-factor.ensures a.reduced.units r.scale_row.ensures in
+    let a = c.raise.ensures in
+    let q = scaled-pivot _ _ _ _ _ (omega arith) (omega arith) a.nonzero c.inverse-factor.ensures a.reduced.units c.scale_row.ensures in
     reduced-then _ _ _ _ _ _ (reduced-then _ _ _ _ _ _ a.reduced q.0) c.clear_column.ensures

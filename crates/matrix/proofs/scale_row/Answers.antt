@@ -8,12 +8,11 @@ pub loop-k-init : goal.loop-k-init
 loop-k-init c = (omega arith, refl, rewritten-none _ _ _)
 
 pub loop-k-preserved : goal.loop-k-preserved
-loop-k-preserved c =
-    let l = c in (
-      omega arith,
-      simp length-set (omega arith),
-      rewritten-more _ _ _ l.loop-k.k _ _ (omega arith) (scaled-entry _ _ l.loop-k.k c.times.result _ _ _ l.loop-k.invariant.2 c.times.ensures) l.loop-k.invariant.2,
-    )
+loop-k-preserved c = (
+  omega arith,
+  simp length-set (omega arith),
+  rewritten-more _ _ _ c.loop-k.k _ _ (omega arith) (scaled-entry _ _ c.loop-k.k c.times.result _ _ _ c.loop-k.invariant.2 c.times.ensures) c.loop-k.invariant.2,
+)
 
 pub returns : goal.returns
 returns c = rewritten-all _ _ (omega arith) (omega arith) c.loop-k.invariant.2

@@ -19,8 +19,7 @@ bounds-out-i c = omega (arith, place c.args.s c.args.i c.loop-k.k c.requires.0.s
 
 pub loop-k-preserved : goal.loop-k-preserved
 loop-k-preserved c =
-    let l = c in
-    (omega arith, simp length-set (omega arith), rewritten-more _ _ _ l.loop-k.k _ _ (omega (arith, place c.args.s c.args.i c.loop-k.k c.requires.0.side c.requires.2 c.loop-k-test.true)) refl l.loop-k.invariant.2)
+    (omega arith, simp length-set (omega arith), rewritten-more _ _ _ c.loop-k.k _ _ (omega (arith, place c.args.s c.args.i c.loop-k.k c.requires.0.side c.requires.2 c.loop-k-test.true)) refl c.loop-k.invariant.2)
 
 pub returns : goal.returns
 returns c = rewritten-all _ _ (omega arith) (omega arith) c.loop-k.invariant.2
