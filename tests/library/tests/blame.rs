@@ -2,7 +2,7 @@
 //! small shapes, and some of large ones. Each check is held against the reference and,
 //! by another method, against the request's own words.
 
-use library::Library;
+use library::{about, shape_with, Library};
 use reference::blocks::{scale, split, Block};
 use reference::cases::{Case, Reference};
 use reference::corpus::draft::all;
@@ -288,12 +288,6 @@ fn damaged(rng: &mut Rng, a: Arrangement, traps: u32, fill: Fill) -> Damaged {
     Damaged { a, record, traps }
 }
 
-/// Any shape with this n and q.
-fn shape_with(rng: &mut Rng, n: u64, q: u64) -> Shape {
-    let k = rng.range(1, q);
-    Shape::new(k, rng.range(q, n), k + n - q, n)
-}
-
 /// Every n up to 8, every q, every set of damaged traps, in every way.
 #[test]
 fn every_set_of_damaged_traps() {
@@ -374,9 +368,15 @@ fn large_shapes() {
 #[test]
 fn the_last_traps() {
     let mut rng = Rng::new(904);
-    let order = Order::new(32, 3);
-    for (traps, count) in [(1 << 31, 33), (3 << 30, 529), (7 << 29, 5489)] {
-        for (k, r, w, b) in [(4, 20, 16, 1), (1, 8, 32, 2), (2, 26, 8, 1)] {
+    let order = Order::new(32, 4);
+    let three = [(4, 20, 16, 1), (1, 8, 32, 2), (2, 26, 8, 1)];
+    for (traps, count, shapes) in [
+        (1 << 31, 33, &three[..]),
+        (3 << 30, 529, &three),
+        (7 << 29, 5489, &three),
+        (15 << 28, 41_449, &[(1, 8, 32, 1)]),
+    ] {
+        for &(k, r, w, b) in shapes {
             let a = Arrangement::new(k, r, w, 32, b);
             let damaged = damaged(&mut rng, a, traps, Fill::EveryByte);
             assert_eq!(order.count(&a, &damaged.record), count);
@@ -385,6 +385,26 @@ fn the_last_traps() {
             }
         }
     }
+}
+
+/// Any four or five of 17 to 20 traps.
+#[test]
+fn four_or_five_of_many() {
+    let mut rng = Rng::new(909);
+    let mut ends = Ends::default();
+    for n in 17..=20 {
+        let order = Order::new(n, 5);
+        for bad in 4..=5 {
+            let q = rng.range(1, n - 2 * bad);
+            let a = shape_with(&mut rng, n, q).with(1);
+            let traps = rng.choose(all(n), bad);
+            let damaged = damaged(&mut rng, a, traps, Fill::EveryByte);
+            let count = order.count(&a, &damaged.record);
+            damaged.test(&order, count, rng.below(count), &mut ends);
+            damaged.test(&order, count, count, &mut ends);
+        }
+    }
+    assert_eq!((ends.exact, ends.stopped), (8, 8));
 }
 
 /// A record from which no small set serves: budgets about the ends of sizes 0, 1 and 2.
@@ -446,4 +466,51 @@ fn one_byte_of_a_long_block() {
         }
     }
     assert!(ends.others == 0 && ends.sound == 0, "{ends:?}");
+}
+
+/// Each bad trap is bad at one byte place of its own, so that no place tells of two
+/// traps: all of these places count. Where fewer than n - q are bad, exactly these are named.
+#[test]
+fn a_place_for_each_bad_trap() {
+    let mut rng = Rng::new(907);
+    for (n, q) in [(8, 1), (9, 2), (10, 3), (12, 1), (12, 4), (14, 1)] {
+        let order = Order::new(n, n - q);
+        let mut ends = Ends::default();
+        for bad in 1..=n - q {
+            let b = rng.range(n, 80);
+            let a = shape_with(&mut rng, n, q).with(b);
+            let (mut record, traps) = (sound(&mut rng, &a), rng.choose(all(n), bad));
+            let first = rng.below(b);
+            for (turn, trap) in (0..).zip(traps_of(traps)) {
+                let place = (first + turn * (b / n)) % b;
+                record[((trap - 1) * b + place) as usize] ^= rng.range(1, 255) as u8;
+            }
+            let damaged = Damaged { a, record, traps };
+            damaged.test_budgets(&mut rng, &order, &mut ends);
+            assert!(bad == n - q || ends.others == 0, "{ends:?}");
+        }
+    }
+}
+
+/// The blocks of the n - q traps that are compared have room of 128 bytes, of 1,024 or
+/// of all that there can be: sizes just within each, and just past it.
+#[test]
+fn rooms() {
+    let mut rng = Rng::new(908);
+    let mut ends = Ends::default();
+    for room in [128, 1024] {
+        for spare in 1..=9 {
+            let q = rng.range(1, 3);
+            let n = q + spare;
+            let order = Order::new(n, spare);
+            for b in about(room, spare) {
+                let a = shape_with(&mut rng, n, q).with(b);
+                for traps in [0, 1, 1 << (n - 1), 3] {
+                    let damaged = damaged(&mut rng, a, traps, Fill::OneByte);
+                    damaged.test_budgets(&mut rng, &order, &mut ends);
+                }
+            }
+        }
+    }
+    assert!(ends.sound > 50 && ends.exact > 100, "{ends:?}");
 }

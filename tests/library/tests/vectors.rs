@@ -10,6 +10,7 @@ fn every_line() {
     let loose = include_str!("../../vectors/2026-01-calls.txt");
     assert_eq!(try_all(loose, &Library), Ok(400));
     let serials = include_str!("../../vectors/2026-03-calls.txt");
+    assert!(serials.lines().all(|line| line.contains(" serials=")));
     assert_eq!(try_all(serials, &Library), Ok(400));
     let columns = include_str!("../../vectors/2026-05-calls.txt");
     assert!(columns.lines().all(|line| line.contains(" column=")));

@@ -34,6 +34,7 @@ fn calls() {
     let loose = include_str!("../../vectors/2026-01-calls.txt");
     assert_eq!(try_all(loose, &Reference), Ok(400));
     let serials = include_str!("../../vectors/2026-03-calls.txt");
+    assert!(serials.lines().all(|line| line.contains(" serials=")));
     assert_eq!(try_all(serials, &Reference), Ok(400));
     let columns = include_str!("../../vectors/2026-05-calls.txt");
     assert!(columns.lines().all(|line| line.contains(" column=")));

@@ -148,7 +148,12 @@ fn many_events(store: &mut Store, rng: &mut Rng) -> io::Result<()> {
         ..damages.counts()
     };
     store.put("many", &damages.bytes_with(&counts))?;
-    Ok(())
+    let mut changes = Script::new(rng, tight(1, 2, 3).with(1));
+    for _ in 0..(LIMIT - changes.draft.length() - 3 * 5) / 6 {
+        changes.change();
+    }
+    changes.read_windows();
+    store.put_script("many", &changes)
 }
 
 /// Shapes with large blocks that fit: (k, r, w, n, B).
