@@ -1,0 +1,18 @@
+-- The test is on the number of coefficients; the larger rooms have place for 32 rows of 32. Assumes nothing.
+use Prim.Native.Nat.{◌+◌, ◌≤◌}
+use native.Mathlib.Nat.{mul-le-mul}
+use native.Mathlib.Omega.{arith}
+use Rattle.base.proofs.Buffers.{areas-fit}
+use Rattle.params.proofs.Sets.{size-most}
+use Rattle.extension.proofs.extend.Goals as goal
+
+pub overflow_mul-size : goal.overflow_mul-size
+overflow_mul-size c =
+    let rows : c.size.result ≤ 32 = omega (arith, c.size.ensures, size-most c.args.targets.0 (omega arith)) in
+    let width : c.args.e + c.size-2.result ≤ 64 = omega (arith, c.requires.most, c.size-2.ensures, size-most c.args.at.0 (omega arith)) in
+    omega (arith, mul-le-mul rows width)
+
+pub extend_within-requires-clause-e_in_bounds : goal.extend_within-requires-clause-e_in_bounds
+extend_within-requires-clause-e_in_bounds c =
+    let rows = size-most c.args.targets.0 (omega arith) in
+    (areas-fit _ _ rows c.requires.most, areas-fit _ _ rows (size-most c.args.at.0 (omega arith)))
