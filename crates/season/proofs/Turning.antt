@@ -15,7 +15,9 @@ use Rattle.season_run.specs.declared.Next.{Next}
 use Rattle.season_run.specs.declared.Next.TheVariants.{End, On}
 use Rattle.season_run.specs.declared.Turn.{Turn}
 use Rattle.season_run.proofs.Program.{goes-next, program-stands, program-prefix, program-output}
-use Rattle.season.specs.Loop.{Printed}
+use Rattle.std.specs.Prelude.{Option}
+use Rattle.std.specs.Io.KnownBytes.{Appends}
+use Rattle.season.specs.Loop.{Printed, HandedOver}
 
 wrote-within : (text old : List ℕ) (written : ℕ) (new : List ℕ) → Wrote text old written new → written ≤ length new
 wrote-within text old written new w = omega (arith, w.count, simp length-append at (ap length w.bytes))
@@ -25,12 +27,6 @@ pub onto : {input buffer serials line lines : List ℕ} {n n' : Next} {buffer' s
     → Calls input buffer serials line lines n buffer' serials' line' → Calls input buffer serials line lines n' buffer' serials' line'
 onto {input} {buffer} {serials} {line} {lines} {buffer' = buffer'} {serials' = serials'} {line' = line'} e =
     subst (λ (n : Next). Calls input buffer serials line lines n buffer' serials' line') e
-
--- whatever calls lead to one place, calls lead to another
-abbrev pub Onward : List ℕ → State → List ℕ → List ℕ → List ℕ → State → List ℕ → List ℕ → List ℕ → Type 0
-Onward input s buffer serials line s' buffer' serials' line' =
-    (first-buffer first-serials first-line lines : List ℕ) → Calls input first-buffer first-serials first-line lines (On s) buffer serials line
-    → (lines' : List ℕ) × Calls input first-buffer first-serials first-line lines' (On s') buffer' serials' line'
 
 module _ (input buffer serials line : List ℕ) (bytes : Bytes input) (room : Room buffer serials line) where
   pub begin-within : (t : Turn) (buffer' serials' line' : List ℕ) → BeginPost input buffer serials line t buffer' serials' line' → t.written ≤ length line'
@@ -62,3 +58,14 @@ module _ (input buffer serials line : List ℕ) (bytes : Bytes input) (room : Ro
         (λ _.
         program-output input bytes room
         (record { buffer_left = buffer'; serials_left = serials'; line_left = line'; calls = onto e calls }))
+
+    -- .. its lines given to a writer
+    pub handed : n ≡ End → {old new : Option (List ℕ)} → Appends old new lines → HandedOver input old new
+    handed e a =
+        record {
+          output = lines;
+          season =
+              program-output input bytes room
+              (record { buffer_left = buffer'; serials_left = serials'; line_left = line'; calls = onto e calls });
+          appended = a;
+        }

@@ -2,9 +2,10 @@
 // input. After a write that fails the program stops, says so on standard error and ends with status 1.
 #![tactic(auto)]
 
-ghost use Rattle.std.specs.Prelude.{◌≤◌, length};
+ghost use Rattle.std.specs.Prelude.{◌≡◌, ◌≤◌, true, length, take};
+ghost use Rattle.std.specs.Io.KnownBytes.{Appends};
 ghost use Rattle.season_run.specs.Season.{Room};
-ghost use Rattle.season.specs.Loop.{Printed};
+ghost use Rattle.season.specs.Loop.{Printed, HandedOver};
 
 use season_run::beginning::begin;
 use season_run::turning::turn;
@@ -41,7 +42,9 @@ fn read_full(from: &mut impl Read, buffer: &mut [u8]) -> usize
 }
 
 // Makes room for the record, the serials and a line. The answer is whether all lines were written.
-fn run(input: &[u8], out: &mut impl Write) -> bool {
+fn run<W: Write>(input: &[u8], out: &mut W) -> bool
+    ensures { result ≡ true → HandedOver input.now (W.contents out.old) (W.contents out.new) }
+{
     let mut codeword = [0u8; 32768];
     let mut serials = [0u32; 32];
     let mut line = [0u8; 65600];
@@ -49,16 +52,17 @@ fn run(input: &[u8], out: &mut impl Write) -> bool {
 }
 
 // Writes each turn's line until the run ends; after a write that fails it stops and answers no. That the calls are the right ones, to the end, is proved
-// (Printed); that their lines are written is tested.
-fn run_within(
+// (Printed), and that their lines are given to the writer, one after the other, where the answer is yes (HandedOver).
+fn run_within<W: Write>(
     input: &[u8],
     codeword: &mut [u8],
     serials: &mut [u32],
     line: &mut [u8],
-    out: &mut impl Write,
+    out: &mut W,
 ) -> bool
     requires { Room codeword.old serials.old line.old }
-    ensures { Printed input.now codeword.old serials.old line.old result codeword.new serials.new line.new }
+    ensures printed { Printed input.now codeword.old serials.old line.old result codeword.new serials.new line.new }
+    ensures handed_over { result ≡ true → HandedOver input.now (W.contents out.old) (W.contents out.new) }
 {
     let first = begin(input, codeword, serials, line);
     if !show(first, line, out) {
@@ -83,8 +87,9 @@ fn run_within(
 }
 
 // Writes the turn's line.
-fn show(t: Turn, line: &[u8], out: &mut impl Write) -> bool
+fn show<W: Write>(t: Turn, line: &[u8], out: &mut W) -> bool
     requires { t.written ≤ length line.now }
+    ensures { result ≡ true → Appends (W.contents out.old) (W.contents out.new) (take t.written line.now) }
 {
     let written = t.written;
     out.write_all(&line[..written]).is_ok()
