@@ -62,7 +62,7 @@ unmoved a input serial e buffer serials message prints step =
     record { prints = prints; step = step; length_is = refl; rest = refl; serials_length = refl; serials_rest = refl }
 
 -- the record at the front of a buffer has n·b bytes, and there are n serials at the front of theirs
-front-full : (a : Params) (buffer serials : List ℕ) → Valid a → length buffer ≡ 32768 → length serials ≡ 32 → Full (held_in a buffer serials)
+pub front-full : (a : Params) (buffer serials : List ℕ) → Valid a → length buffer ≡ 32768 → length serials ≡ 32 → Full (held_in a buffer serials)
 front-full a buffer serials v room count =
     let nb : a.n * a.b ≤ 32768 = blocks-room a a.n v (omega arith) in
     (length-take-le (a.n * a.b) buffer (omega arith), length-take-le a.n serials (omega (arith, v.shape.n_high)))

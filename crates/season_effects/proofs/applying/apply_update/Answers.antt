@@ -1,0 +1,32 @@
+-- The call on the record, the serials and the change. Assumes nothing.
+use mathlib.Core.Path.{refl, sym, ◌∙◌}
+use native.Mathlib.Omega.{arith}
+use Rattle.gates.proofs.Valid.{n-fits}
+use Rattle.season_effects.proofs.Fronts.{blocks-room}
+use Rattle.season_effects.proofs.Applied.{front-full, update-applied}
+use Rattle.season_effects.proofs.applying.apply_update.Goals as goal
+
+pub overflow_mul-length : goal.overflow_mul-length
+overflow_mul-length c = n-fits c.requires.valid
+
+pub slice_bounds-update-end : goal.slice_bounds-update-end
+slice_bounds-update-end c = let s = c in omega (arith, s.requires.codeword_len.0, blocks-room s.args.a s.args.a.n s.requires.valid (omega arith))
+
+pub slice_bounds-update-end-2 : goal.slice_bounds-update-end-2
+slice_bounds-update-end-2 c = sym (front-full c.args.a c.args.codeword.now c.args.serials.now c.requires.valid c.requires.codeword_len.0 c.requires.codeword_len.1).0
+
+pub slice_bounds-update-end-3 : goal.slice_bounds-update-end-3
+slice_bounds-update-end-3 c = let s = c in omega (arith, s.requires.codeword_len.1, s.requires.valid.shape.n_high)
+
+pub slice_bounds-update-end-4 : goal.slice_bounds-update-end-4
+slice_bounds-update-end-4 c = sym (front-full c.args.a c.args.codeword.now c.args.serials.now c.requires.valid c.requires.codeword_len.0 c.requires.codeword_len.1).1
+
+pub returns : goal.returns
+returns c =
+    let s = c in
+    let u = c.update in (
+      refl,
+      update-applied s.args.a s.requires.valid s.args.codeword.now s.args.serials.now _ _ s.requires.codeword_len.0 s.requires.codeword_len.1
+          (u.auto.codeword ∙ (front-full c.args.a c.args.codeword.now c.args.serials.now c.requires.valid c.requires.codeword_len.0 c.requires.codeword_len.1).0) (u.auto.serials ∙ (front-full c.args.a c.args.codeword.now c.args.serials.now c.requires.valid c.requires.codeword_len.0 c.requires.codeword_len.1).1)
+          s.args.input.now s.args.serial s.args.f _ s.requires.stretch u.ensures,
+    )
