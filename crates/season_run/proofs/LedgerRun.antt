@@ -101,7 +101,7 @@ allowed h m input number (Reconfigure f) p u = (given-in-force h, record { undam
 
 module _ (input : List ℕ) (bytes : Bytes input) where
   -- what an event of the run does is a step
-  pub step_of : {line : List ℕ} {here here' : Place} (f : Found) → item_at here.stands.params input here.at ≡ item.Whole f
+  pub step_of : {here : Place} {line : List ℕ} {here' : Place} (f : Found) → item_at here.stands.params input here.at ≡ item.Whole f
       → Goes input here line (on here') → Step here.stands (listed_at input here f) (answer_at here f) here'.stands
   step_of {here = here} f i (season.tried left g line h' z i' t) =
       let e : g ≡ f = cc in subst (λ (f : Found). Step here.stands (listed_at input here f) (answer_at here f) h') e t.step

@@ -195,7 +195,7 @@ module _ (input : List ℕ) (bytes : Bytes input) where
     omega (arith, header-counted input hd bytes i),
   )
 
-  pub goes-stands : {line : List ℕ} {here here' : Place} → Stands here → Goes input here line (on here') → Stands here'
+  pub goes-stands : {here : Place} {line : List ℕ} {here' : Place} → Stands here → Goes input here line (on here') → Stands here'
   goes-stands {here = here} (w, c) (tried more f line h' z i t) =
       let h = here.stands in
       let ty = typed h input here.number f.event bytes (omega arith) (found-good h.params input here.at f i) in

@@ -51,7 +51,7 @@ opens-fits (faulty fault i) = line-fits 0 0 fault [] (omega arith)
 opens-fits (refused hd i ne) = line-fits 0 0 _ [] (omega arith)
 opens-fits (opened hd codeword serials i post) = line-fits 0 0 0 [] (omega arith)
 
-goes-fits : {input line : List ℕ} {here : Place} {outcome : Outcome} → Valid here.stands.params → Goes input here line outcome → length line ≤ 65600
+goes-fits : {input : List ℕ} {here : Place} {line : List ℕ} {outcome : Outcome} → Valid here.stands.params → Goes input here line outcome → length line ≤ 65600
 goes-fits v (over z p) = omega arith
 goes-fits v (leftover z p) = line-fits _ 0 23 [] (omega arith)
 goes-fits v (faulty more f z i) = line-fits _ f.kind f.number [] (omega arith)
@@ -69,7 +69,7 @@ wrote-text text line written line' w room fits = (
 
 -- ---- the count of events
 
-pub goes-next : {input line : List ℕ} {here here' : Place} → Goes input here line (on here')
+pub goes-next : {input : List ℕ} {here : Place} {line : List ℕ} {here' : Place} → Goes input here line (on here')
     → (here'.number ≡ suc here.number) × (here.left ≡ suc here'.left)
 goes-next (tried more f line h' z i t) = (omega arith, z)
 

@@ -16,7 +16,7 @@ module _ (input : List ℕ) (bytes : Bytes input) where
   opens-reached : {line : List ℕ} {here : Place} → Opens input line (on here) → (m : Machine) × Reached input [] here m
   opens-reached (season.opened hd codeword serials i post) = (_, opened hd i (season.opened hd codeword serials i post))
 
-  goes-reached : {line : List ℕ} {here here' : Place} {events : List Event} {m : Machine} → Reached input events here m → Goes input here line (on here')
+  goes-reached : {here : Place} {line : List ℕ} {here' : Place} {events : List Event} {m : Machine} → Reached input events here m → Goes input here line (on here')
       → (events' : List Event) × (m' : Machine) × Reached input events' here' m'
   goes-reached r (season.tried more f line h' z i t) = (_, _, tried f r i (season.tried more f line h' z i t))
 
