@@ -1,6 +1,5 @@
 -- The gate's number; where it is 0, the rows go one after the other to a cleared buffer. Assumes nothing.
 use mathlib.Core.Path.{sym, ◌∙◌}
-use Prim.Native.Nat.{◌≤◌}
 use native.Mathlib.Omega.{arith}
 use lib.ListN.{length}
 use lib.Seq.{length-take-le}
