@@ -1,6 +1,7 @@
 -- The gate's number; where it is 0, the rows go one after the other to a cleared buffer. Assumes nothing.
 use mathlib.Core.Path.{sym, ◌∙◌}
 use native.Mathlib.Omega.{arith}
+use borrow.Author.Rules.{rules}
 use lib.ListN.{length}
 use lib.Seq.{length-take-le}
 use Rattle.gates.specs.Valid.{DeltaAccepted}
@@ -27,7 +28,7 @@ slice_bounds-spread-end c =
 pub spread-requires : goal.spread-requires
 spread-requires c =
     in_a_row c.args.a c.args.to.0 (omega arith) c.args.change.now c.in_order-order.result c.in_order-order.ensures _
-    (accepted (goal.at.spread-requires c).Else-refusal-ne0) _ c.clear.auto.dst
+    (accepted (goal.at.spread-requires c).Else-refusal-ne0) _ (search rules)
 
 pub returns : goal.returns
 returns c =
