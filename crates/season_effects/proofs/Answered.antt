@@ -3,7 +3,6 @@
 use mathlib.Core.Path.{◌≡◌, refl, sym, ◌∙◌, subst}
 use mathlib.Core.List.{List}
 use Prim.Native.Nat.{ℕ, ◌*◌}
-use native.Mathlib.Omega.{arith}
 use lib.ListN.{length, replicate, length-replicate}
 use Rattle.base.proofs.Parts.{length-lent}
 use Rattle.gates.specs.Gates.{update_gate, repair_gate, damage_gate, decode_gate, reconfigure_gate}

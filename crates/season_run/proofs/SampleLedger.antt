@@ -22,7 +22,6 @@ use Rattle.ledger.proofs.Computed.{bytes, encode-by, decode-by, update-by, repai
 use Rattle.season_file.specs.File.{number_at, choice_at, opening_of, item_at}
 use Rattle.season_lines.specs.Lines.{line_of}
 use Rattle.season_answers.specs.Answers.{answer_of}
-use Rattle.season_file.specs.declared.Event.{Event}
 use Rattle.season_file.specs.declared.Event.TheVariants.{Update, Repair, Damage, Decode, Reconfigure}
 use Rattle.season_file.specs.declared.Found.{Found}
 use Rattle.season_file.specs.declared.Header.{Header}

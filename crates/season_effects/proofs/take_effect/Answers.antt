@@ -15,9 +15,9 @@ is_ready-requires c = (c.args.serial, omega (arith, c.answer-number.ensures, c.i
 
 pub apply-requires : goal.apply-requires
 apply-requires c = record {
-      ready = c.is_ready.ensures.holds c.if-is_ready.true;
-      e_value = omega (arith, c.answer-number.ensures, c.if-number-ne0.false);
-    }
+  ready = c.is_ready.ensures.holds c.if-is_ready.true;
+  e_value = omega (arith, c.answer-number.ensures, c.if-number-ne0.false);
+}
 
 pub returns-then-is_ready : goal.returns-then-is_ready
 returns-then-is_ready c =

@@ -28,7 +28,6 @@ begin_within-requires c = record {
   record_room = c.if-codeword-ne32768.false;
   serials_room = c.if-serials-ne32.false;
   line_room = c.if-line-ne65600.false;
-
 }
 
 pub returns : goal.returns

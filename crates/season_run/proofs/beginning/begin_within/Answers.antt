@@ -6,9 +6,9 @@ use Rattle.season_run.proofs.beginning.begin_within.Goals as goal
 
 pub set_up-requires : goal.set_up-requires
 set_up-requires c = record {
-      input_value = sym c.«open».ensures ∙ c.in-Whole.is;
-      room = c.requires;
-    }
+  input_value = sym c.«open».ensures ∙ c.in-Whole.is;
+  room = c.requires;
+}
 
 pub returns-in-Faulty : goal.returns-in-Faulty
 returns-in-Faulty c =

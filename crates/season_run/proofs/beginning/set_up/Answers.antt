@@ -24,7 +24,7 @@ slice_bounds-encode-end-3 c =
     omega (arith, s.requires.room.record_room, size_fits s.args.header.params _ c.record_length-length.ensures)
 
 pub slice_bounds-encode-end-4 : goal.slice_bounds-encode-end-4
-slice_bounds-encode-end-4 c = 
+slice_bounds-encode-end-4 c =
     let s = c in
     sym (length-take-le _ c.args.codeword.now (omega (arith, s.requires.room.record_room, size_fits s.args.header.params _ c.record_length-length.ensures)))
 

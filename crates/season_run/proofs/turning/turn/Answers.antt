@@ -41,12 +41,12 @@ returns-then-s-gt65536 c =
 
 pub turn_within-requires : goal.turn_within-requires
 turn_within-requires c = record {
-      room = record { record_room = c.if-codeword-ne32768.false; serials_room = c.if-serials-ne32.false; line_room = c.if-line-ne65600.false };
-      standing = record {
+  room = record { record_room = c.if-codeword-ne32768.false; serials_room = c.if-serials-ne32.false; line_room = c.if-line-ne65600.false };
+  standing = record {
     valid = some-record _ _ c.record_length.ensures c.if-record_length-eq0.false;
     countable = omega (arith, c.if-s-gt65536.false);
   };
-    }
+}
 
 pub returns : goal.returns
 returns c =
