@@ -13,7 +13,6 @@ overflow_mul-size c =
     record { fits = omega (arith, blocks-most c.size.result c.args.a.b (omega (arith, c.size.ensures, size-most c.outside.result.0 (omega arith))) c.requires.b_high) }
 
 -- as many blocks as the new slack has parts
-
 pub reconfigure_within-requires-clause-b_in_bounds : goal.reconfigure_within-requires-clause-b_in_bounds
 reconfigure_within-requires-clause-b_in_bounds c =
     let s = c.args in
