@@ -1,5 +1,5 @@
 -- Calls of the run lead here, and the writer has been given their lines; with each turn fewer events are left. Assumes nothing.
-use Rattle.std.proofs.Common.{ℕ, ◌≡◌, length, List}
+use Rattle.std.proofs.Common.{ℕ, List}
 use Rattle.std.specs.Io.KnownBytes.{Appends}
 use Rattle.season_run.specs.Program.{Calls}
 use Rattle.season_run.specs.declared.Next.TheVariants.{On}
