@@ -1,6 +1,7 @@
 -- Each test decides; of the event its blocks do. Assumes nothing.
 use mathlib.Core.Path.{◌≡◌, subst}
 use mathlib.Core.Bool.{Bool}
+use native.Mathlib.Omega.{arith}
 use Rattle.base.specs.Decided.{Decided}
 use Rattle.base.proofs.Decisions.{decided-true}
 use Rattle.gates.specs.Valid.{Valid}
@@ -11,29 +12,23 @@ use Rattle.season_effects.specs.Effects.{InFull, Accepted, Ready}
 use Rattle.season_effects.proofs.Applied.{new-valid}
 use Rattle.season_effects.proofs.Readiness.{not-ready, ready_by, box-fits, box-decided}
 use Rattle.season_effects.proofs.is_ready.Goals as goal
-use Rattle.season_effects.proofs.is_ready.Goals.{Else-record_length-eq0, Start}
+use Rattle.season_effects.proofs.is_ready.Goals.{Else-record_length-eq0}
 
 -- all tests before the event are passed
 module _ (c : Else-record_length-eq0) where
-  abbrev start : Start
-  start = c.before.before.before.before.before
-
-  valid : Valid start.args.a
+  valid : Valid c.args.a
   valid = some-record _ _ c.record_length.ensures c.if-record_length-eq0.false
 
   -- the event's blocks decide
-  decided : (t : Bool) (e : Event) → start.args.e ≡ e → Decided (InFull start.args.a start.args.input e) t
-      → Decided (Ready start.args.a start.args.input start.args.e start.args.codeword start.args.serials start.args.room) t
-  decided t e is d = ready_by _ _ _ _ _ _ t e is valid c.if-codeword-ne32768.false c.if-serials-ne32.false c.if-room-ne32768.false d
+  decided : (t : Bool) (e : Event) → c.args.e ≡ e → Decided (InFull c.args.a c.args.input e) t
+      → Decided (Ready c.args.a c.args.input c.args.e c.args.codeword c.args.serials c.args.room) t
+  decided t e is d = ready_by _ _ _ _ _ c.args.room t e is valid c.if-codeword-ne32768.false c.if-serials-ne32.false (omega arith) d
 
 pub returns-then-codeword-ne32768 : goal.returns-then-codeword-ne32768
 returns-then-codeword-ne32768 c = not-ready _ _ _ _ _ _ (λ h. c.if-codeword-ne32768.true h.record_room)
 
 pub returns-then-serials-ne32 : goal.returns-then-serials-ne32
 returns-then-serials-ne32 c = not-ready _ _ _ _ _ _ (λ h. c.if-serials-ne32.true h.serials_room)
-
-pub returns-then-room-ne32768 : goal.returns-then-room-ne32768
-returns-then-room-ne32768 c = not-ready _ _ _ _ _ _ (λ h. c.if-room-ne32768.true h.work_room)
 
 pub returns-then-record_length-eq0 : goal.returns-then-record_length-eq0
 returns-then-record_length-eq0 c = not-ready _ _ _ _ _ _ (λ h. no_record _ _ c.record_length.ensures c.if-record_length-eq0.true h.valid)
@@ -45,7 +40,7 @@ pub overflow_mul-size : goal.overflow_mul-size
 overflow_mul-size c =
     let h = (goal.at.overflow_mul-size c).Else-record_length-eq0 in
     let is = c.in-Damage.is in
-    box-fits (start h).args.a _ (valid h) (subst (Accepted (start h).args.a) is (start h).requires) _ c.size.ensures
+    box-fits h.args.a _ (valid h) (subst (Accepted h.args.a) is h.requires) _ c.size.ensures
 
 pub overflow_mul-f : goal.overflow_mul-f
 overflow_mul-f c =
@@ -62,7 +57,7 @@ pub returns-in-Damage : goal.returns-in-Damage
 returns-in-Damage c =
     let h = (goal.at.returns-in-Damage c).Else-record_length-eq0 in
     decided h _ _ c.in-Damage.is
-    (box-decided (start h).args.a (start h).args.input _ _ _ c.size.ensures c.is_stretch-in-Damage.ensures)
+    (box-decided h.args.a h.args.input _ _ _ c.size.ensures c.is_stretch-in-Damage.ensures)
 
 pub returns-in-Decode : goal.returns-in-Decode
 returns-in-Decode c = decided (goal.at.returns-in-Decode c).Else-record_length-eq0 _ _ c.in-Decode.is (decided-true _ tt)
