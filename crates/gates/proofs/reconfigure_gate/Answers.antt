@@ -15,7 +15,7 @@ use Rattle.base.proofs.Questions.{first-zero}
 use Rattle.gates.proofs.Valid.{valid-of, shape-yes, k-fits, n-fits}
 use Rattle.gates.proofs.Answers.{refused, passed, answered-to-8, ten-more, at_most}
 use Rattle.gates.proofs.reconfigure_gate.Goals as goal
-use Rattle.gates.proofs.reconfigure_gate.Goals.{After-params_gate-old_shape, Else-new_shape-ne0, Else-old_shape-ne0, Then-new_shape-ne0}
+use Rattle.gates.proofs.reconfigure_gate.Goals.{After-params_gate-new_shape, After-params_gate-old_shape, Then-new_shape-ne0}
 
 -- the answers to the questions 6, 7 and 8, and these questions
 abbrev lengths : After-params_gate-old_shape → Bool
@@ -34,25 +34,24 @@ abbrev rest : After-params_gate-old_shape → List Question
 rest c = lengths_asked (lengths c) ∷ names_asked (names c) ∷ sizes_asked (sizes c) ∷ []
 
 -- past the questions 1 to 5
-valid : (c : Else-old_shape-ne0) → Valid c.args.a
-valid c = valid-of c.args.a c.params_gate-old_shape.ensures c.if-old_shape-ne0.false
+valid : (c : After-params_gate-old_shape) → c.params_gate-old_shape.result ≡ 0 → Valid c.args.a
+valid c none = valid-of c.args.a c.params_gate-old_shape.ensures none
 
-onward : (c : Else-old_shape-ne0) {g : ℕ}
-    → let s = c.args in
-    g ≡ first_no (shape_asked 10 s.t ++ rest c.before.before) → g ≡ first_no (params_asked s.a ++ shape_asked 10 s.t ++ rest c.before.before)
-onward c e =
+onward : (c : After-params_gate-old_shape) {g : ℕ} → c.params_gate-old_shape.result ≡ 0
+    → g ≡ first_no (shape_asked 10 c.args.t ++ rest c) → g ≡ first_no (params_asked c.args.a ++ shape_asked 10 c.args.t ++ rest c)
+onward c none e =
     let s = c.args in
-    passed (params_asked s.a) (shape_asked 10 s.t ++ rest c.before.before) tt c.params_gate-old_shape.ensures c.if-old_shape-ne0.false e
+    passed (params_asked s.a) (shape_asked 10 s.t ++ rest c) tt c.params_gate-old_shape.ensures none e
 
 -- past the questions 11 to 14
-valid_new : (c : Else-new_shape-ne0) → let s = c.args in Valid (reshaped s.a s.t)
-valid_new c =
+valid_new : (c : After-params_gate-new_shape) → c.params_gate-new_shape.result ≡ 0 → let s = c.args in Valid (reshaped s.a s.t)
+valid_new c none =
     let s = c.args in
-    valid-of (reshaped s.a s.t) c.params_gate-new_shape.ensures c.if-new_shape-ne0.false
+    valid-of (reshaped s.a s.t) c.params_gate-new_shape.ensures none
 
 -- the numbers 11 to 14
-numbered : (c : Then-new_shape-ne0) → c.params_gate-new_shape.result + 10 ≡ first_no (shape_asked 10 c.args.t)
-numbered c =
+numbered : (c : Then-new_shape-ne0) → Valid c.args.a → c.params_gate-new_shape.result + 10 ≡ first_no (shape_asked 10 c.args.t)
+numbered c v =
     let s = c.args in
     let t = s.t in
     ten-more
@@ -61,7 +60,7 @@ numbered c =
     ((leb 1 t.k && leb t.k t.r) && leb t.k t.w)
     (leb (t.k + t.n) (t.r + t.w))
     (leb 1 s.a.b && leb s.a.b 1024)
-    (ap₂ ◌&&◌ (le-leb _ _ (valid c.before).b_low) (le-leb _ _ (valid c.before).b_high))
+    (ap₂ ◌&&◌ (le-leb _ _ v.b_low) (le-leb _ _ v.b_high))
     c.params_gate-new_shape.ensures
     c.if-new_shape-ne0.true
 
@@ -69,7 +68,7 @@ pub returns-then-old_shape-ne0 : goal.returns-then-old_shape-ne0
 unfolding reconfigure_gate
 returns-then-old_shape-ne0 c =
     let s = c.args in
-    refused (params_asked s.a) (shape_asked 10 s.t ++ rest c.before.before) c.params_gate-old_shape.ensures c.if-old_shape-ne0.true
+    refused (params_asked s.a) (shape_asked 10 s.t ++ rest (goal.at.returns-then-old_shape-ne0 c).After-params_gate-old_shape) c.params_gate-old_shape.ensures c.if-old_shape-ne0.true
 
 pub overflow_add-result : goal.overflow_add-result
 overflow_add-result c =
@@ -82,31 +81,29 @@ overflow_add-result c =
 pub returns-then-new_shape-ne0 : goal.returns-then-new_shape-ne0
 unfolding reconfigure_gate
 returns-then-new_shape-ne0 c =
-    let e = c.before in
-    onward e (refused (shape_asked 10 e.args.t) (rest e.before.before) (numbered c) (λ z. omega (arith, z)))
+    let o = (goal.at.returns-then-new_shape-ne0 c).After-params_gate-old_shape in
+    let none : c.params_gate-old_shape.result ≡ 0 = omega arith in
+    onward o none (refused (shape_asked 10 c.args.t) (rest o) (numbered c (valid o none)) (λ z. omega (arith, z)))
 
 pub overflow_mul-a : goal.overflow_mul-a
-overflow_mul-a c = n-fits (valid c.before.before.before.before)
+overflow_mul-a c = n-fits (valid (goal.at.overflow_mul-a c).After-params_gate-old_shape (omega arith))
 
 pub overflow_mul-t : goal.overflow_mul-t
-overflow_mul-t c = n-fits (valid_new c.before.before.before.before.before)
+overflow_mul-t c = n-fits (valid_new (goal.at.overflow_mul-t c).After-params_gate-new_shape (omega arith))
 
 pub overflow_mul-t-2 : goal.overflow_mul-t-2
-overflow_mul-t-2 c = k-fits (valid_new c.before.before.before.before.before.before.before)
+overflow_mul-t-2 c = k-fits (valid_new (goal.at.overflow_mul-t-2 c).After-params_gate-new_shape (omega arith))
 
 pub returns : goal.returns
 unfolding reconfigure_gate
 returns c =
-    let sized = c.before.before in
-    let named = sized.before.before.before in
-    let f = named.before.before.before.before.before.before.before.before.before in
-    let e = f.before in
-    let start = e.before.before in
-    let s = start.args in
-    onward e
-    (passed (shape_asked 10 s.t) (rest start) tt (sym (first-zero (shape_asked 10 s.t) (shape-yes 10 s.t (valid_new f).shape tt))) refl
-    (answered-to-8 (lengths start) (names start) (sizes start)
+    let o = (goal.at.returns c).After-params_gate-old_shape in
+    let s = c.args in
+    onward o (omega arith)
+    (passed (shape_asked 10 s.t) (rest o) tt
+    (sym (first-zero (shape_asked 10 s.t) (shape-yes 10 s.t (valid_new (goal.at.returns c).After-params_gate-new_shape (omega arith)).shape tt))) refl
+    (answered-to-8 (lengths o) (names o) (sizes o)
     refl
-    (ap₂ ◌&&◌ named.within.ensures named.within-2.ensures)
-    (ap₂ (λ (x y : ℕ). eqb x s.a.r && eqb y s.t.w) sized.size.ensures sized.size-2.ensures)
+    (ap₂ ◌&&◌ c.within.ensures c.within-2.ensures)
+    (ap₂ (λ (x y : ℕ). eqb x s.a.r && eqb y s.t.w) c.size.ensures c.size-2.ensures)
     c.answers_gate.ensures))

@@ -1,6 +1,7 @@
 -- Valid parameters have small numbers, and check accepts a record of their length. Assumes nothing.
 use mathlib.Core.Logic.{inl, inr}
-use mathlib.Core.Path.{refl, sym, ◌∙◌}
+use mathlib.Core.Path.{refl, ◌∙◌}
+use Prim.Native.Nat.{◌*◌}
 use native.Mathlib.Omega.{arith}
 use Rattle.gates.proofs.Valid.{check-accepted, blocks-most}
 use Rattle.season_answers.proofs.record_length.Goals as goal
@@ -19,4 +20,4 @@ pub returns-then-check_gate-ne0 : goal.returns-then-check_gate-ne0
 returns-then-check_gate-ne0 c = inr (λ v. c.if-check_gate-ne0.true (c.check_gate.ensures ∙ (check-accepted _ _).1 (record { valid = v; codeword_length = refl })), refl)
 
 pub returns : goal.returns
-returns c = inl (((check-accepted _ _).0 (sym c.check_gate.ensures ∙ c.if-check_gate-ne0.false)).valid, refl)
+returns c = let a = c.args.a in inl (((check-accepted a (a.n * a.b)).0 (omega (arith, c.check_gate.ensures))).valid, refl)
