@@ -87,7 +87,8 @@ fn load_row(s: usize, i: usize, m: &[u8], w: &mut [u8])
     }
 }
 
-// Brings column after column to the identity's.
+// Brings column after column to the identity's. Document 01 ("Forms we want to see") asks for this form: the pivot search answers a row or nothing, and elimination takes
+// it with let else, refusing where none is found.
 fn eliminate(s: usize, w: &mut [u8]) -> Elimination
     requires { Sized s w.old }
     ensures { Ended s w.old w.new result }

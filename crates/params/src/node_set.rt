@@ -69,6 +69,7 @@ impl NodeSet {
         NodeSet(self.0 & ((1u32 << passed) - 1))
     }
 
+    // (Document 01, "Forms we want to see": a set's size by the count of ones, its nodes by trailing zeros.)
     // The nodes in rising order go to the front of out, which has 32 places; what stands behind them is as it was. The answer is how many they are. Where out has not
     // 32 places, nothing is written, and the answer is 0. Each turn of the loop goes on to the next node of the set; rest has those behind it.
     pub fn list(self, out: &mut [u8]) -> usize

@@ -9,7 +9,8 @@ ghost use Rattle.season_file.specs.Lengths.{capped};
 
 use params::{NodeSet, Params, Shape};
 
-// A stretch of the input.
+// A stretch of the input. A place and a count, and no slice: document 01 ("Forms we want to see") asks for an event enum whose cases carry structs of choices,
+// arrangement numbers and input offsets, with the blocks left in the lent input.
 #[derive(Clone, Copy)]
 pub struct Span {
     pub at: usize,

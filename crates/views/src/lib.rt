@@ -9,7 +9,7 @@ use base::wide;
 use gates::view_gate;
 use params::{Node, Params};
 
-// The node's block; an empty part where the call is refused.
+// The node's block; an empty part where the call is refused, as document 01 has it ("A refused view is a part of length 0", `ViewPost`).
 pub fn view(a: Params, codeword: &[u8], node: Node) -> &[u8]
     ensures { ViewPost a codeword.now node.0 result.now }
 {
