@@ -1,3 +1,4 @@
 pub mod Valid
+pub mod Refusals
 mod Answers
 pub mod Edges

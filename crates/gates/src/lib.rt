@@ -8,8 +8,49 @@ ghost use Rattle.params.specs.Nodes.{size, within};
 ghost use Rattle.gates.specs.Gates.{params_asked, lengths_asked, names_asked, sizes_asked, node_asked};
 ghost use Rattle.gates.specs.Gates.{encode_gate, check_gate, decode_gate, delta_gate, update_gate, repair_gate, view_gate, reconfigure_gate, damage_gate};
 ghost use Rattle.gates.specs.Valid.{Valid};
+ghost use Rattle.gates.specs.Refusals.{number};
 
 use params::{Node, NodeSet, Params, Shape};
+
+// Why a call is refused. A variant's discriminant is the documents' number of the question whose answer is no; 15, 16 and 20 to 23 are others'.
+#[derive(Clone, Copy, Debug, PartialEq, Eq)]
+pub enum Refusal {
+    // n is not from 1 to 32
+    NodeCount = 1,
+    // r or w is above n
+    ReadOrWriteCount = 2,
+    // k is 0, above r or above w
+    MessageParts = 3,
+    // r + w is below k + n: a decode and an update may share fewer than k nodes
+    SharedNodes = 4,
+    // b is not from 1 to 1024
+    BlockSize = 5,
+    // a slice has not its exact length
+    Length = 6,
+    // a set names a node above n
+    NodeAboveN = 7,
+    // a set has not its exact size
+    SetSize = 8,
+    // a node is both lost and read
+    LostIsRead = 9,
+    // a node's number is not from 1 to n
+    NodeNumber = 10,
+    // the first four for new parameters
+    NewNodeCount = 11,
+    NewReadOrWriteCount = 12,
+    NewMessageParts = 13,
+    NewSharedNodes = 14,
+    // an update's serial is 0
+    SerialZero = 24,
+}
+
+impl From<Refusal> for u32 {
+    ghost from_gives = { λ q n. n ≡ number q };
+
+    fn from(q: Refusal) -> u32 {
+        q as u32
+    }
+}
 
 // Questions 1 to 5.
 fn params_gate(a: Params) -> u32
