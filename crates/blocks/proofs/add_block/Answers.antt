@@ -1,29 +1,17 @@
 use mathlib.Core.Path.{refl, ap₂}
 use native.Mathlib.Omega.{arith}
 use lib.Bits.{bit_xor}
-use Rattle.base.proofs.Filled.{filled_none, filled_more}
+use Rattle.base.proofs.Filled.{filled_more}
 use Rattle.field.specs.Field.{add}
 use Rattle.blocks.proofs.Overlap.{filled-plus}
 use Rattle.blocks.proofs.add_block.Goals as goal
-
-pub loop-p-init : goal.loop-p-init
-loop-p-init c = (omega arith, filled_none _ _)
-
-pub bounds-dst-p : goal.bounds-dst-p
-bounds-dst-p c = omega (arith, c.loop-p.invariant.1.same)
-
-pub bounds-dst-p-in-loop-p : goal.bounds-dst-p-in-loop-p
-bounds-dst-p-in-loop-p c = omega (arith, c.loop-p.invariant.1.same)
 
 pub loop-p-preserved : goal.loop-p-preserved
 unfolding add
 loop-p-preserved c =
     let l = c.loop-p in
-    let s = l.invariant.1 in
-    (omega arith, filled_more _ l.p _ l.dst _ (omega (arith, s.same)) (ap₂ bit_xor (s.rest l.p (omega arith)) refl) s)
-
-pub shape_of-dst : goal.shape_of-dst
-shape_of-dst c = c.loop-p.invariant.1.same
+    let s = l.invariant in
+    filled_more _ l.p _ l.dst _ (omega (arith, s.same)) (ap₂ bit_xor (s.rest l.p (omega arith)) refl) s
 
 pub returns : goal.returns
-returns c = filled-plus _ _ _ c.loop-p.p (λ h. omega (arith, c.shorter-count.ensures.lower_bound (omega arith))) c.loop-p.invariant.1
+returns c = filled-plus _ _ _ c.loop-p.p (λ h. omega arith) c.loop-p.invariant

@@ -1,12 +1,8 @@
 -- After p turns the first p bytes are the sums, the others as they were; where src ends first, the bytes behind its end stay. Assumes nothing.
-use Prim.Native.Nat.{◌-◌, ◌≤◌}
 use lib.ListN.{get_or}
 use Rattle.base.specs.Parts.{Filled}
 use Rattle.field.specs.Field.{add}
 use Rattle.blocks.proofs.add_block.Given as goal
 
 abbrev pub invariant-loop-p : goal.invariant-loop-p
-invariant-loop-p l = (l.p ≤ l.count) × Filled (λ q. add (get_or l.initial.dst q 0) (get_or l.src q 0)) l.p l.initial.dst l.dst
-
-abbrev pub decreases-loop-p : goal.decreases-loop-p
-decreases-loop-p l = l.count - l.p
+invariant-loop-p l = Filled (λ q. add (get_or l.initial.dst q 0) (get_or l.src q 0)) l.p l.initial.dst l.dst
