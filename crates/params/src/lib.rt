@@ -4,7 +4,7 @@
 pub mod node_set;
 
 ghost use Rattle.std.specs.Prelude.{◌≡◌, ◌-◌, ◌^◌, min};
-ghost use Rattle.params.specs.Params.{slack_parts, working};
+ghost use Rattle.params.specs.Params.{slack_parts, working, shape_of};
 
 // The parameters of a code but for the block size; document 01's k, r, w, n.
 #[derive(Clone, Copy)]
@@ -39,6 +39,18 @@ pub struct Node(pub u8);
 pub struct NodeSet(pub u32);
 
 impl Params {
+    // All but the block size.
+    pub fn shape(self) -> Shape
+        ensures { result ≡ shape_of self }
+    {
+        Shape {
+            k: self.k,
+            r: self.r,
+            w: self.w,
+            n: self.n,
+        }
+    }
+
     // How many parts the slack has: n - w, or 0 where w exceeds n.
     pub fn slack_parts(self) -> usize
         ensures { result ≡ slack_parts self }
