@@ -62,31 +62,31 @@ sum-holds xs ys hx hy e =
 
 -- ---- read from the last byte to the first
 
--- the last s bytes of n
-abbrev pub last : ℕ → List ℕ → ℕ → ℕ → ℕ
-last n xs s t = get_or xs (n - s + t) 0
+-- the bytes from s on
+abbrev pub behind : List ℕ → ℕ → ℕ → ℕ
+behind xs s t = get_or xs (s + t) 0
 
-pub word_none : (n : ℕ) (xs : List ℕ) → 0 ≡ word 0 (last n xs 0)
+pub word_none : (s : ℕ) (xs : List ℕ) → 0 ≡ word 0 (behind xs s)
 unfolding word
-word_none n xs = refl
+word_none s xs = refl
 
 -- g has one byte more than f, in front
 front : (m x : ℕ) (f g : ℕ → ℕ) → x ≡ g 0 → ((t : ℕ) → f t ≡ g (suc t)) → word m f * 256 + x ≡ word (suc m) g
 unfolding word
 front m x f g e h = omega (arith, e, word-ext m f (λ t. g (suc t)) h)
 
-pub word_more : (n s : ℕ) (xs : List ℕ) → s < n → word s (last n xs s) * 256 + get_or xs (n - 1 - s) 0 ≡ word (s + 1) (last n xs (s + 1))
-word_more n s xs h =
-    front s (get_or xs (n - 1 - s) 0) (last n xs s) (last n xs (s + 1)) (ap (λ (q : ℕ). get_or xs q 0) (omega arith)) (λ t. ap (λ (q : ℕ). get_or xs q 0) (omega arith))
-    ∙ ap (λ (m : ℕ). word m (last n xs (s + 1))) (sym (add-one s))
+pub word_more : (n s : ℕ) (xs : List ℕ) → 0 < s → s ≤ n → word (n - s) (behind xs s) * 256 + get_or xs (s - 1) 0 ≡ word (n - (s - 1)) (behind xs (s - 1))
+word_more n s xs low high =
+    front (n - s) (get_or xs (s - 1) 0) (behind xs s) (behind xs (s - 1)) (ap (λ (q : ℕ). get_or xs q 0) (omega arith)) (λ t. ap (λ (q : ℕ). get_or xs q 0) (omega arith))
+    ∙ ap (λ (m : ℕ). word m (behind xs (s - 1))) (omega arith)
 
-pub word-all : (n : ℕ) (xs : List ℕ) → length xs ≡ n → word n (last n xs n) ≡ word_of xs
+pub word-all : (n s : ℕ) (xs : List ℕ) → length xs ≡ n → s ≡ 0 → word (n - s) (behind xs s) ≡ word_of xs
 unfolding word_of
-word-all n xs e = ap (λ (m : ℕ). word m (last n xs n)) (sym e) ∙ word-ext (length xs) _ _ (λ t. ap (λ (q : ℕ). get_or xs q 0) (omega arith))
+word-all n s xs e z = ap₂ (λ (m k : ℕ). word m (behind xs k)) (omega arith) z ∙ word-ext (length xs) _ _ (λ t. ap (λ (q : ℕ). get_or xs q 0) (omega arith))
 
 -- a word of fewer than n bytes, as one of n, has room for one byte more
-pub word_room : (n s : ℕ) (xs : List ℕ) → Bytes xs → s < n → word s (last n xs s) * 256 + 256 ≤ 256 ^ n
-word_room n s xs h lt = omega (arith, word_lt s (last n xs s) (λ t. h (n - s + t)), pow-suc 256 s, below)
+pub word_room : (n s : ℕ) (xs : List ℕ) → Bytes xs → 0 < s → s ≤ n → word (n - s) (behind xs s) * 256 + 256 ≤ 256 ^ n
+word_room n s xs h low high = omega (arith, word_lt (n - s) (behind xs s) (λ t. h (s + t)), pow-suc 256 (n - s), below)
   where
-    below : 256 ^ suc s ≤ 256 ^ n
-    below = pow-le-pow_right (omega arith) lt
+    below : 256 ^ suc (n - s) ≤ 256 ^ n
+    below = pow-le-pow_right (omega arith) (omega arith)

@@ -6,22 +6,21 @@ ghost use Rattle.std.specs.Int.Bits.{bit_xor};
 ghost use Rattle.field.specs.Field.{plus};
 ghost use Rattle.words.specs.Words.{word_of, low_bytes};
 
-use base::shorter;
 use blocks::add_block;
 
 // dst += src by words of eight bytes, and then what is left, up to seven bytes. A byte that src does not have counts as 00.
 pub fn add_words(dst: &mut [u8], src: &[u8])
     ensures { dst.new ≡ plus dst.old src.now }
 {
-    let count = shorter(dst.len(), src.len());
-    let whole = count - count % 8;
-    let mut p = 0;
-    while p < whole {
-        let end = p + 8;
-        add_word(&mut dst[p..end], &src[p..end]);
-        p = end;
+    let count = dst.len().min(src.len());
+    let words = count / 8;
+    // by a range: what goes through chunks_exact_mut, no proof knows afterwards
+    for word in 0..words {
+        let p = 8 * word;
+        add_word(&mut dst[p..p + 8], &src[p..p + 8]);
     }
-    add_tail(&mut dst[p..count], &src[p..count]);
+    let done = 8 * words;
+    add_tail(&mut dst[done..count], &src[done..count]);
 }
 
 // The bytes that no word takes: at most seven += those of src.
@@ -56,11 +55,8 @@ fn word_of(bytes: &[u8]) -> u64
     ensures { result ≡ word_of bytes.now }
 {
     let mut word = 0;
-    let mut s = 0;
-    while s < 8 {
-        let byte = bytes[7 - s] as u64;
-        word = word * 256 + byte;
-        s += 1;
+    for s in (0..8).rev() {
+        word = word * 256 + u64::from(bytes[s]);
     }
     word
 }
@@ -69,12 +65,9 @@ fn word_of(bytes: &[u8]) -> u64
 pub fn put_word(bytes: &mut [u8], word: u64)
     ensures { bytes.new ≡ low_bytes (length bytes.old) word }
 {
-    let count = bytes.len();
     let mut rest = word;
-    let mut s = 0;
-    while s < count {
-        bytes[s] = (rest % 256) as u8;
-        rest = rest / 256;
-        s += 1;
+    for byte in bytes.iter_mut() {
+        *byte = (rest % 256) as u8;
+        rest /= 256;
     }
 }

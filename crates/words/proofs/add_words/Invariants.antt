@@ -1,13 +1,9 @@
--- When p bytes are done, p a multiple of eight, the first p are the sums, the others as they were; at the end fewer than eight are left. Assumes nothing.
-use mathlib.Core.Path.{◌≡◌}
-use Prim.Native.Nat.{◌-◌, ◌%◌, ◌≤◌}
+-- When so many words are done, the bytes of theirs are the sums, the others as they were. Assumes nothing.
+use Prim.Native.Nat.{◌*◌}
 use lib.ListN.{get_or}
 use Rattle.base.specs.Parts.{Filled}
 use Rattle.field.specs.Field.{add}
 use Rattle.words.proofs.add_words.Given as goal
 
-abbrev pub invariant-loop-p : goal.invariant-loop-p
-invariant-loop-p l = (l.p ≤ l.whole) × (l.p % 8 ≡ 0) × Filled (λ q. add (get_or l.initial.dst q 0) (get_or l.src q 0)) l.p l.initial.dst l.dst
-
-abbrev pub decreases-loop-p : goal.decreases-loop-p
-decreases-loop-p l = l.whole - l.p
+abbrev pub invariant-loop-word : goal.invariant-loop-word
+invariant-loop-word l = Filled (λ q. add (get_or l.initial.dst q 0) (get_or l.src q 0)) (8 * l.word) l.initial.dst l.dst
