@@ -30,10 +30,8 @@ fn picks_word(coeffs: &[u8]) -> u64
     ensures { result ≡ word 8 (pick_of coeffs.now) }
 {
     let mut word = 0;
-    let mut k = 0;
-    while k < coeffs.len() {
-        word = word * 2 + spread(coeffs[k]);
-        k += 1;
+    for coeff in coeffs {
+        word = word * 2 + spread(*coeff);
     }
     word
 }
@@ -44,6 +42,6 @@ fn picks_word(coeffs: &[u8]) -> u64
 fn spread(c: u8) -> u64
     ensures { result ≡ word 8 (λ s. bit s c) }
 {
-    let copies = (c % 128) as u64 * 72198606942111748;
-    (copies & 72340172838076672) + (c / 128) as u64
+    let copies = u64::from(c % 128) * 72198606942111748;
+    (copies & 72340172838076672) + u64::from(c / 128)
 }

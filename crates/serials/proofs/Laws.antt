@@ -3,6 +3,7 @@ use mathlib.Core.Path.{◌≡◌, refl, sym, ap, ◌∙◌, subst}
 use mathlib.Core.Logic.{⊎_elim}
 use mathlib.Core.Bool.{Bool, true, false, ◌&&◌, cond, and-true, and-false, and_assoc}
 use mathlib.Core.List.{List}
+use mir.Val.{bool_byte}
 use Prim.Native.Nat.{ℕ, zero, suc, ◌+◌, ◌-◌, ◌*◌, ◌/◌, ◌%◌, ◌^◌, ◌≤◌, ◌<◌, max, zero-le}
 use native.Mathlib.Nat.{le_refl, le_trans, le_of_eq, max-le, le-max_left, le-max_right, div-one, pow-suc}
 use native.Mathlib.Numerals.{add-one, one-add}
@@ -136,9 +137,14 @@ bit_is : (t : Bool) → eqb (one t) 1 ≡ t
 bit_is true = refl
 bit_is false = refl
 
-pub bit_le : (t : Bool) → one t ≤ 1
+bit_le : (t : Bool) → one t ≤ 1
 bit_le true = le_refl 1
 bit_le false = zero-le
+
+-- a test as the code's number
+pub test_bit : (t : Bool) → bool_byte t ≡ one t
+test_bit true = refl
+test_bit false = refl
 
 -- a bit put under a word
 under_first : (w : ℕ) (t : Bool) → has (w * 2 + one t) 1 ≡ t

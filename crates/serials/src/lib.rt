@@ -7,19 +7,13 @@ ghost use Rattle.base.specs.Seq.{one};
 ghost use Rattle.params.specs.Nodes.{has};
 ghost use Rattle.serials.specs.Serials.{takes, highest, Stamped};
 
-use base::shorter;
 use params::NodeSet;
 
 // All serials become 0.
 pub fn clear_serials(serials: &mut [u32])
     ensures { serials.new ≡ replicate (length serials.old) 0 }
 {
-    let end = serials.len();
-    let mut at = 0;
-    while at < end {
-        serials[at] = 0;
-        at += 1;
-    }
+    serials.fill(0);
 }
 
 // The nodes of `to` that are reached and whose own serial, among those given, is below the serial.
@@ -33,36 +27,21 @@ pub fn takers(to: NodeSet, reached: NodeSet, serials: &[u32], serial: u32) -> No
 fn older(serials: &[u32], serial: u32) -> u32
     ensures { (j : ℕ) → j < 32 → has result (suc j) ≡ (ltb (get_or serials.now j 0) serial && leb (suc j) (length serials.now)) }
 {
-    let mut at = shorter(serials.len(), 32);
     let mut word: u32 = 0;
-    while 0 < at {
-        at -= 1;
-        word = word * 2 + below(serials[at], serial);
+    for at in (0..serials.len().min(32)).rev() {
+        word = word * 2 + u32::from(serials[at] < serial);
     }
     word
-}
-
-// 1 if a is below b, else 0.
-fn below(a: u32, b: u32) -> u32
-    ensures { result ≡ one (ltb a b) }
-{
-    if a < b {
-        return 1;
-    }
-    0
 }
 
 // The nodes of the set take the serial.
 pub fn stamp(serials: &mut [u32], set: NodeSet, serial: u32)
     ensures { Stamped (length serials.old) (has set.0) serial serials.old serials.new }
 {
-    let end = serials.len();
     let mut rest = set.0;
-    let mut at = 0;
-    while at < end {
-        serials[at] = pick(rest, serial, serials[at]);
-        rest = rest / 2;
-        at += 1;
+    for own in serials.iter_mut() {
+        *own = pick(rest, serial, *own);
+        rest /= 2;
     }
 }
 
@@ -70,38 +49,21 @@ pub fn stamp(serials: &mut [u32], set: NodeSet, serial: u32)
 pub fn hand_on(serials: &[u32], set: NodeSet, serial: u32, out: &mut [u32])
     ensures { Stamped (length out.old) (has set.0) serial serials.now out.new }
 {
-    let end = out.len();
-    let mut rest = set.0;
-    let mut at = 0;
-    while at < end {
-        out[at] = pick(rest, serial, serial_of(serials, at));
-        rest = rest / 2;
-        at += 1;
+    for (at, own) in out.iter_mut().enumerate() {
+        *own = serials.get(at).copied().unwrap_or(0);
     }
-}
-
-// The serial at a place, or 0 behind the last.
-fn serial_of(serials: &[u32], at: usize) -> u32
-    ensures { result ≡ get_or serials.now at 0 }
-{
-    if at < serials.len() {
-        return serials[at];
-    }
-    0
+    stamp(out, set, serial);
 }
 
 // The highest serial of the set's nodes, 0 where it has none.
 pub fn highest(serials: &[u32], set: NodeSet) -> u32
     ensures { result ≡ highest (has set.0) serials.now (length serials.now) }
 {
-    let end = serials.len();
     let mut rest = set.0;
     let mut most: u32 = 0;
-    let mut at = 0;
-    while at < end {
-        most = larger(most, pick(rest, serials[at], 0));
-        rest = rest / 2;
-        at += 1;
+    for own in serials {
+        most = most.max(pick(rest, *own, 0));
+        rest /= 2;
     }
     most
 }
@@ -110,18 +72,5 @@ pub fn highest(serials: &[u32], set: NodeSet) -> u32
 fn pick(set: u32, first: u32, second: u32) -> u32
     ensures { result ≡ cond (eqb (set % 2) 1) first second }
 {
-    if set % 2 == 1 {
-        return first;
-    }
-    second
-}
-
-// The larger of two serials.
-fn larger(a: u32, b: u32) -> u32
-    ensures { result ≡ max a b }
-{
-    if b < a {
-        return a;
-    }
-    b
+    if set % 2 == 1 { first } else { second }
 }

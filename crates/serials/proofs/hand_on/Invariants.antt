@@ -1,15 +1,7 @@
--- After `at` turns so many nodes are done, and their bits are gone from the rest. Assumes nothing.
-use mathlib.Core.Path.{◌≡◌}
-use mathlib.Core.Bool.{cond}
-use Prim.Native.Nat.{suc, ◌-◌, ◌/◌, ◌^◌, ◌≤◌}
-use lib.ListN.{length, get_or}
+-- After `at` turns so many nodes have their own serials, or 0 behind the last. Assumes nothing.
+use lib.ListN.{get_or}
 use Rattle.base.specs.Parts.{Filled}
-use Rattle.params.specs.Nodes.{has}
 use Rattle.serials.proofs.hand_on.Given as goal
 
 abbrev pub invariant-loop-at : goal.invariant-loop-at
-invariant-loop-at l =
-    (l.at ≤ length l.initial.out) × (l.rest ≡ l.initial.rest / 2 ^ l.at) × Filled (λ j. cond (has l.initial.rest (suc j)) l.serial (get_or l.serials j 0)) l.at l.initial.out l.out
-
-abbrev pub decreases-loop-at : goal.decreases-loop-at
-decreases-loop-at l = length l.initial.out - l.at
+invariant-loop-at l = Filled (λ j. get_or l.serials j 0) l.at l.initial.out l.out

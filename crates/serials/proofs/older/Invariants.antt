@@ -4,6 +4,3 @@ use Rattle.serials.proofs.older.Given as goal
 
 abbrev pub invariant-loop-at : goal.invariant-loop-at
 invariant-loop-at l = Older l.serials l.serial l.at l.word
-
-abbrev pub decreases-loop-at : goal.decreases-loop-at
-decreases-loop-at l = l.at
