@@ -3,21 +3,22 @@ use mathlib.Core.Path.{◌≡◌, refl, sym, ap, ap₂, ◌∙◌, subst}
 use mathlib.Core.Logic.{⊎_elim}
 use mathlib.Core.Bool.{Bool, true, false, not, ◌&&◌, and-true, and-false, true≢false}
 use mathlib.Core.List.{List, [], ◌∷◌, ◌++◌}
-use Prim.Native.Nat.{ℕ, zero, suc, ◌+◌, ◌-◌, ◌*◌, ◌/◌, ◌%◌, ◌^◌, ◌≤◌, ◌<◌, zero-le}
+use Prim.Native.Nat.{ℕ, zero, suc, ◌+◌, ◌-◌, ◌*◌, ◌/◌, ◌%◌, ◌^◌, ◌≤◌, ◌<◌}
 use native.Mathlib.Nat.{le_refl, le_trans, le_of_eq, lt_of_le_of_lt, not-suc-le-zero, one-mul, div-one, div-lt_iff_lt-mul, add-mul, mod-lt, pow-suc, sub-zero}
 use native.Mathlib.Numerals.{add-one, one-add}
 use native.Mathlib.Omega.{arith}
 use lib.Bits.{bit_and}
 use lib.Count.{count_trailing_zeros, under}
 use lib.Dec.{leb, ltb, eqb}
-use lib.ListN.{length, get_or, drop, set, length-append, length-drop}
+use lib.ListN.{length, get_or, drop, set}
 use lib.Pow.{pow_pos, shl_exact, shr_lt, shr-shr, shr_le, split, high, ones_split}
 use lib.Seq.{set_at, drop-cons, append_snoc}
+use Rattle.std.proofs.lemmas.List.{append-nil, drop_all}
 use borrow.Author.Tests.{leb-true, le-leb, lt-ltb, le-ltb, eq-eqb}
 use Rattle.base.specs.Seq.{one}
-use Rattle.base.proofs.Cases.{lt-or}
-use Rattle.params.specs.Nodes.{has, size, count, only, nodes, lowest, outside, Listing}
-use Rattle.params.proofs.Sets.{length-nodes, count-le, count-mono, rank_lt, nodes-stop, count-stop, range-yes, range-no, size-count, has-past, has-none, has-and}
+use Rattle.base.proofs.Cases.{lt-or, eq-or}
+use Rattle.params.specs.Nodes.{has, size, count, only, nodes, lowest, listed, outside}
+use Rattle.params.proofs.Sets.{length-nodes, count-mono, rank_lt, nodes-stop, count-stop, range-yes, range-no, size-count, has-past, has-none, has-and}
 
 -- 1 shifted by less than the width
 pub one_shifted : (n : ℕ) → n < 32 → 1 * 2 ^ n % 2 ^ 32 ≡ 2 ^ n
@@ -118,9 +119,10 @@ pub record Passed (s at passed rest : ℕ) : Type 0 where
   pub at_is : at ≡ count (has s) passed
   pub left : rest ≡ s / 2 ^ passed
 
-pub passed_none : (s : ℕ) → s < 2 ^ 32 → Passed s 0 0 s
+pub passed_none : (s passed rest : ℕ) → s < 2 ^ 32 → passed ≡ 0 → rest ≡ s → Passed s 0 passed rest
 unfolding count
-passed_none s h = record { small = h; passed_le = zero-le; at_is = refl; left = sym (div-one s) }
+passed_none s passed rest h e f =
+    record { small = h; passed_le = omega arith; at_is = ap (count (has s)) (sym e); left = f ∙ sym (div-one s) ∙ ap (λ (k : ℕ). s / 2 ^ k) (sym e) }
 
 -- the next node of the set
 module _ {s at passed rest : ℕ} (w : Passed s at passed rest) (ne : rest ≡ 0 → ⊥) where
@@ -149,19 +151,16 @@ module _ {s at passed rest : ℕ} (w : Passed s at passed rest) (ne : rest ≡ 0
   same_count : count (has s) (passed + count_trailing_zeros 32 rest) ≡ at
   same_count = count-stop (has s) passed (passed + count_trailing_zeros 32 rest) (omega arith) none_between ∙ sym w.at_is
 
-  pub at_lt : at < 32
-  at_lt =
-      omega (arith, same_count, count-le (has s) 32, rank_lt (has s) 32 (passed + count_trailing_zeros 32 rest) next-lt next-in)
-
-  pub passed-more : Passed s (at + 1) (passed + count_trailing_zeros 32 rest + 1) (rest / 2 ^ count_trailing_zeros 32 rest / 2)
+  pub passed-more : {passed' rest' : ℕ} → passed' ≡ passed + count_trailing_zeros 32 rest + 1 → rest' ≡ rest / 2 ^ count_trailing_zeros 32 rest / 2
+      → Passed s (at + 1) passed' rest'
   unfolding count
-  passed-more =
+  passed-more e f =
       let j = passed + count_trailing_zeros 32 rest in
       record {
         small = w.small;
         passed_le = omega (arith, next-lt);
-        at_is = omega (arith, same_count, ap one next-in, ap (count (has s)) (add-one j));
-        left = ap (λ (x : ℕ). x / 2) (bit_at (count_trailing_zeros 32 rest)) ∙ shr-shr s j 1;
+        at_is = omega (arith, same_count, ap one next-in, ap (count (has s)) (add-one j)) ∙ ap (count (has s)) (sym e);
+        left = f ∙ ap (λ (x : ℕ). x / 2) (bit_at (count_trailing_zeros 32 rest)) ∙ shr-shr s j 1 ∙ ap (λ (k : ℕ). s / 2 ^ k) (sym e);
       }
 
 module _ {s at passed rest : ℕ} (w : Passed s at passed rest) where
@@ -175,6 +174,13 @@ module _ {s at passed rest : ℕ} (w : Passed s at passed rest) where
   -- while there are more, a bit is left, ..
   pub more_left : at < size s → rest ≡ 0 → ⊥
   more_left h e = omega (arith, passed-all e)
+
+  -- .. and none once all are passed
+  none_left : at ≡ size s → rest ≡ 0
+  none_left e =
+      ⊎_elim (λ z. z)
+      (λ ne. let m = passed-more w ne refl refl in absurd (omega (arith, m.at_is, count-mono (has s) _ 32 m.passed_le, size-count 32 s w.small)))
+      (eq-or rest 0)
 
   pub passed-lt : at < size s → passed < 32
   passed-lt h =
@@ -196,51 +202,45 @@ module _ {s at passed rest : ℕ} (w : Passed s at passed rest) where
           (lt-or j passed)
       go (suc j) false e = sym (ap (λ (b : Bool). b && ltb (count (has s) j) at) e)
 
--- The nodes up to `passed` are listed, and what stands behind them is as it was.
+-- The nodes up to `passed` are listed at the front of a list that has room for all, and what stands behind them is as it was.
 pub record Walked (s : ℕ) (old out : List ℕ) (at passed rest : ℕ) : Type 0 where
   pub walk : Passed s at passed rest
-  pub room : length old ≡ 32
+  pub room : length old ≡ size s
   pub listed : out ≡ nodes (has s) passed ++ drop at old
 
-pub walked_none : (s : ℕ) (old : List ℕ) → s < 2 ^ 32 → length old ≡ 32 → Walked s old old 0 0 s
+pub walked_none : (s passed rest : ℕ) (old : List ℕ) → s < 2 ^ 32 → passed ≡ 0 → rest ≡ s → length old ≡ size s → Walked s old old 0 passed rest
 unfolding nodes
-walked_none s old h room = record { walk = passed_none s h; room = room; listed = refl }
+walked_none s passed rest old h e f room =
+    record { walk = passed_none s passed rest h e f; room = room; listed = ap (λ (n : ℕ). nodes (has s) n ++ old) (sym e) }
 
-pub walked_more : {s : ℕ} {old out : List ℕ} {at passed rest : ℕ} → Walked s old out at passed rest → (rest ≡ 0 → ⊥)
-    → Walked s old (set out at (passed + count_trailing_zeros 32 rest + 1)) (at + 1) (passed + count_trailing_zeros 32 rest + 1) (rest / 2 ^ count_trailing_zeros 32 rest / 2)
+pub walked_more : {s : ℕ} {old out : List ℕ} {at passed rest passed' rest' : ℕ} → Walked s old out at passed rest → at < size s
+    → passed' ≡ passed + count_trailing_zeros 32 rest + 1 → rest' ≡ rest / 2 ^ count_trailing_zeros 32 rest / 2
+    → Walked s old (set out at passed') (at + 1) passed' rest'
 unfolding nodes
-walked_more {s} {old} {out} {at} {passed} {rest} w ne =
+walked_more {s} {old} {out} {at} {passed} {rest} {passed'} {rest'} w more e f =
     let j = passed + count_trailing_zeros 32 rest in
+    let ne = more_left w.walk more in
     let listed : nodes (has s) (suc j) ≡ nodes (has s) passed ++ suc j ∷ [] =
     ap₂ (λ (l : List ℕ) (b : Bool). l ++ only b (suc j)) (nodes-stop (has s) passed j (omega arith) (none_between w.walk ne)) (next-in w.walk ne) in
     let behind : drop at old ≡ get_or old at 0 ∷ drop (at + 1) old =
-    drop-cons old at 0 (omega (arith, at_lt w.walk ne, w.room)) ∙ ap (λ (n : ℕ). get_or old at 0 ∷ drop n old) (sym (add-one at)) in
+    drop-cons old at 0 (omega (arith, w.room)) ∙ ap (λ (n : ℕ). get_or old at 0 ∷ drop n old) (sym (add-one at)) in
+    let is : suc j ≡ passed' = omega arith in
     record {
-      walk = passed-more w.walk ne;
+      walk = passed-more w.walk ne e f;
       room = w.room;
       listed =
-          ap (λ (l : List ℕ). set l at (j + 1)) (w.listed ∙ ap (λ (l : List ℕ). nodes (has s) passed ++ l) behind)
-          ∙ set_at (nodes (has s) passed) (get_or old at 0) (drop (at + 1) old) (j + 1) at (length-nodes (has s) passed ∙ sym w.walk.at_is)
-          ∙ sym (append_snoc (nodes (has s) passed) (j + 1) (drop (at + 1) old))
-          ∙ ap (λ (n : ℕ). (nodes (has s) passed ++ n ∷ []) ++ drop (at + 1) old) (add-one j)
+          ap (λ (l : List ℕ). set l at passed') (w.listed ∙ ap (λ (l : List ℕ). nodes (has s) passed ++ l) behind)
+          ∙ set_at (nodes (has s) passed) (get_or old at 0) (drop (at + 1) old) passed' at (length-nodes (has s) passed ∙ sym w.walk.at_is)
+          ∙ sym (append_snoc (nodes (has s) passed) passed' (drop (at + 1) old))
+          ∙ ap (λ (n : ℕ). (nodes (has s) passed ++ n ∷ []) ++ drop (at + 1) old) (sym is)
           ∙ ap (λ (l : List ℕ). l ++ drop (at + 1) old) (sym listed)
-          ∙ ap (λ (n : ℕ). nodes (has s) n ++ drop (at + 1) old) (sym (add-one j));
+          ∙ ap (λ (n : ℕ). nodes (has s) n ++ drop (at + 1) old) is;
     }
 
-module _ {s : ℕ} {old out : List ℕ} {at passed rest : ℕ} (w : Walked s old out at passed rest) where
-  pub walked-length : length out ≡ 32
-  walked-length =
-      ap length w.listed ∙ length-append (nodes (has s) passed) (drop at old)
-      ∙ omega (arith, length-nodes (has s) passed, w.walk.at_is, count-le (has s) passed, w.walk.passed_le, length-drop at old, w.room)
-
-  -- no bit is left
-  pub walked_all : rest ≡ 0 → Listing s old at out
-  walked_all e =
-      record {
-        written = λ room.
-            w.listed
-            ∙ ap₂ (λ (l : List ℕ) (n : ℕ). l ++ drop n old)
-            (sym (nodes-stop (has s) passed 32 w.walk.passed_le (λ j hj hk. has-past passed s j (below w.walk e) hj))) (passed-all w.walk e);
-        counted = λ room. passed-all w.walk e;
-        kept = λ none. absurd (none w.room);
-      }
+-- all are listed
+pub walked_all : {s : ℕ} {old out : List ℕ} {at passed rest : ℕ} → Walked s old out at passed rest → at ≡ size s → out ≡ listed s
+walked_all {s} {old} {out} {at} {passed} w all =
+    w.listed
+    ∙ ap₂ ◌++◌ (sym (nodes-stop (has s) passed 32 w.walk.passed_le (λ j hj hk. has-past passed s j (below w.walk (none_left w.walk all)) hj)))
+    (drop_all at old (omega (arith, w.room)))
+    ∙ append-nil (listed s)

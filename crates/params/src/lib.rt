@@ -7,7 +7,7 @@ ghost use Rattle.std.specs.Prelude.{◌≡◌, ◌-◌, ◌^◌, min};
 ghost use Rattle.params.specs.Params.{slack_parts, working, shape_of};
 
 // The parameters of a code but for the block size; document 01's k, r, w, n.
-#[derive(Clone, Copy)]
+#[derive(Clone, Copy, PartialEq, Eq)]
 pub struct Shape {
     // message parts
     pub k: usize,
@@ -20,7 +20,7 @@ pub struct Shape {
 }
 
 // Code parameters. Document 01 calls them an arrangement.
-#[derive(Clone, Copy)]
+#[derive(Clone, Copy, PartialEq, Eq)]
 pub struct Params {
     pub k: usize,
     pub r: usize,
@@ -31,11 +31,11 @@ pub struct Params {
 }
 
 // A storage node's number, from 1. Document 01 calls it a trap number.
-#[derive(Clone, Copy)]
+#[derive(Clone, Copy, PartialEq, Eq)]
 pub struct Node(pub u8);
 
 // A set of nodes, node i worth 2^(i-1). Document 01 calls it a choice of traps.
-#[derive(Clone, Copy)]
+#[derive(Clone, Copy, PartialEq, Eq)]
 pub struct NodeSet(pub u32);
 
 impl Params {
@@ -55,20 +55,13 @@ impl Params {
     pub fn slack_parts(self) -> usize
         ensures { result ≡ slack_parts self }
     {
-        if self.n < self.w {
-            return 0;
-        }
-        self.n - self.w
+        self.n.saturating_sub(self.w)
     }
 
     // The working number: k plus the slack's parts, but at most the largest usize.
     pub fn working(self) -> usize
         ensures { result ≡ min (working self) (2 ^ 64 - 1) }
     {
-        let slack = self.slack_parts();
-        if usize::MAX - slack < self.k {
-            return usize::MAX;
-        }
-        self.k + slack
+        self.k.saturating_add(self.slack_parts())
     }
 }

@@ -1,5 +1,6 @@
 // Node sets as words of 32 bits.
-ghost use Rattle.std.specs.Prelude.{◌≡◌, ◌&&◌, ℕ, leb};
+ghost use Rattle.std.specs.Prelude.{◌≡◌, ◌&&◌, ℕ, ◌+◌, ◌/◌, ◌^◌, ◌<◌, leb};
+ghost use Rattle.std.specs.Int.Count.{count_trailing_zeros};
 ghost use Rattle.params.specs.Nodes.{has, size, within, disjoint, outside, lowest, Listing};
 
 use super::{Node, NodeSet};
@@ -8,7 +9,7 @@ impl NodeSet {
     pub fn size(self) -> usize
         ensures { result ≡ size self.0 }
     {
-        u32::count_ones(self.0) as usize
+        self.0.count_ones() as usize
     }
 
     // No set has node 0, or a node above 32.
@@ -57,37 +58,58 @@ impl NodeSet {
         if self.size() <= q {
             return self;
         }
-        let mut at: usize = 0;
-        let mut passed: u32 = 0;
-        let mut rest = self.0;
-        while at < q {
-            let zeros = u32::trailing_zeros(rest);
-            passed = passed + zeros + 1;
-            rest = (rest >> zeros) / 2;
-            at += 1;
+        let mut walk = Walk::over(self);
+        for _ in 0..q {
+            walk = walk.next();
         }
-        NodeSet(self.0 & ((1u32 << passed) - 1))
+        NodeSet(self.0 & ((1u32 << walk.passed) - 1))
     }
 
     // (Document 01, "Forms we want to see": a set's size by the count of ones, its nodes by trailing zeros.)
     // The nodes in rising order go to the front of out, which has 32 places; what stands behind them is as it was. The answer is how many they are. Where out has not
-    // 32 places, nothing is written, and the answer is 0. Each turn of the loop goes on to the next node of the set; rest has those behind it.
+    // 32 places, nothing is written, and the answer is 0.
     pub fn list(self, out: &mut [u8]) -> usize
         ensures { Listing self.0 out.old result out.new }
     {
         if out.len() != 32 {
             return 0;
         }
-        let mut at: usize = 0;
-        let mut passed: u32 = 0;
-        let mut rest = self.0;
-        while rest != 0 {
-            let zeros = u32::trailing_zeros(rest);
-            passed = passed + zeros + 1;
-            rest = (rest >> zeros) / 2;
-            out[at] = passed as u8;
-            at += 1;
+        let count = self.size();
+        let mut walk = Walk::over(self);
+        for place in out[..count].iter_mut() {
+            walk = walk.next();
+            *place = walk.passed as u8;
         }
-        at
+        count
+    }
+}
+
+// A walk over a set's nodes, from the lowest on: the node that it came to last, or 0 at the start, and the set's nodes above that one, node passed + 1 at bit 0.
+#[derive(Clone, Copy)]
+struct Walk {
+    passed: u32,
+    rest: u32,
+}
+
+impl Walk {
+    fn over(set: NodeSet) -> Walk
+        ensures { (result.passed ≡ 0) × (result.rest ≡ set.0) }
+    {
+        Walk {
+            passed: 0,
+            rest: set.0,
+        }
+    }
+
+    // Goes on to the next node.
+    fn next(self) -> Walk
+        requires { self.passed + count_trailing_zeros 32 self.rest < 32 }
+        ensures { (result.passed ≡ self.passed + count_trailing_zeros 32 self.rest + 1) × (result.rest ≡ self.rest / 2 ^ count_trailing_zeros 32 self.rest / 2) }
+    {
+        let zeros = self.rest.trailing_zeros();
+        Walk {
+            passed: self.passed + zeros + 1,
+            rest: (self.rest >> zeros) / 2,
+        }
     }
 }

@@ -1,46 +1,43 @@
-use mathlib.Core.Path.{refl, sym, ◌∙◌}
-use Prim.Native.Nat.{◌+◌, ◌<◌}
+use mathlib.Core.Path.{ap₂, ◌∙◌}
+use mathlib.Core.List.{List, ◌++◌}
+use Prim.Native.Nat.{ℕ}
 use native.Mathlib.Omega.{arith}
-use lib.Count.{count_trailing_zeros}
-use lib.Pow.{shr_le}
-use Rattle.params.proofs.Words.{walked_none, next-lt, at_lt, walked_more, walked-length, walked_all}
+use lib.ListN.{drop}
+use lib.Seq.{length-take-le}
+use Rattle.params.proofs.Sets.{size-most}
+use Rattle.params.proofs.Words.{walked_none, next-lt, more_left, walked_more, walked_all}
 use Rattle.params.proofs.NodeSet.list.Goals as goal
 
-pub returns-then-out-ne32 : goal.returns-then-out-ne32
-returns-then-out-ne32 c = record { written = λ room. absurd (c.if-out-ne32.true room); counted = λ room. absurd (c.if-out-ne32.true room); kept = λ none. (refl, refl) }
+pub slice_bounds-place-items-end : goal.slice_bounds-place-items-end
+slice_bounds-place-items-end c = omega (arith, size-most c.args.self.0 (omega arith))
 
-pub loop-rest-init : goal.loop-rest-init
-loop-rest-init c = walked_none c.args.self.0 _ (omega arith) c.if-out-ne32.false
+pub slice_bounds-place-items-end-2 : goal.slice_bounds-place-items-end-2
+slice_bounds-place-items-end-2 c = omega (arith, length-take-le c.size-count.result c.args.out.now (omega (arith, size-most c.args.self.0 (omega arith))))
 
-next : (c : goal.In-loop-rest) → c.loop-rest.passed + count_trailing_zeros 32 c.loop-rest.rest < 32
-next c = next-lt c.loop-rest.invariant.walk c.loop-rest-test.true
+pub loop-place-init : goal.loop-place-init
+loop-place-init c =
+    walked_none _ _ _ _ (omega arith) c.over-walk.ensures.0 c.over-walk.ensures.1
+    (length-take-le c.size-count.result c.args.out.now (omega (arith, size-most c.args.self.0 (omega arith))) ∙ c.size-count.ensures)
 
-pub overflow_add-passed : goal.overflow_add-passed
-overflow_add-passed c = omega (arith, next c)
+pub next-walk-requires : goal.next-walk-requires
+next-walk-requires c = let w = c.loop-place.invariant in next-lt w.walk (more_left w.walk (omega (arith, w.room)))
 
-pub overflow_add-passed-in-loop-rest : goal.overflow_add-passed-in-loop-rest
-overflow_add-passed-in-loop-rest c = omega (arith, next c)
+pub overflow_cast-place : goal.overflow_cast-place
+overflow_cast-place c =
+    let w = c.loop-place.invariant in
+    record { fits = omega (arith, c.next-walk.ensures.0, next-lt w.walk (more_left w.walk (omega (arith, w.room)))) }
 
-pub overflow_shr-rest : goal.overflow_shr-rest
-overflow_shr-rest c = omega (arith, next c)
-
-pub overflow_cast-out : goal.overflow_cast-out
-overflow_cast-out c = omega (arith, next c)
-
-pub bounds-out-at : goal.bounds-out-at
-bounds-out-at c = omega (arith, at_lt c.loop-rest.invariant.walk c.loop-rest-test.true, walked-length c.loop-rest.invariant)
-
-pub overflow_add-at : goal.overflow_add-at
-overflow_add-at c = omega (arith, at_lt c.loop-rest.invariant.walk c.loop-rest-test.true)
-
-pub loop-rest-smaller : goal.loop-rest-smaller
-loop-rest-smaller c = let rest = c.loop-rest.rest in omega (arith, shr_le rest (count_trailing_zeros 32 rest))
-
-pub loop-rest-preserved : goal.loop-rest-preserved
-loop-rest-preserved c = walked_more c.loop-rest.invariant c.loop-rest-test.true
-
-pub shape_of-out : goal.shape_of-out
-shape_of-out c = walked-length c.loop-rest.invariant ∙ sym c.loop-rest.invariant.room
+pub loop-place-preserved : goal.loop-place-preserved
+loop-place-preserved c =
+    let w = c.loop-place.invariant in
+    walked_more w (omega (arith, w.room)) c.next-walk.ensures.0 c.next-walk.ensures.1
 
 pub returns : goal.returns
-returns c = walked_all c.loop-rest.invariant c.loop-rest-test.false
+returns c =
+    let w = c.loop-place.invariant in
+    let n = c.size-count in
+    record {
+      written = λ room. ap₂ (λ (l : List ℕ) (k : ℕ). l ++ drop k c.args.out.now) (walked_all w (omega (arith, w.room))) n.ensures;
+      counted = λ room. n.ensures;
+      kept = λ none. absurd (none (omega arith));
+    }

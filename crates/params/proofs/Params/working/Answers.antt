@@ -3,10 +3,6 @@ use native.Mathlib.Omega.{arith}
 use Rattle.params.specs.Params.{working}
 use Rattle.params.proofs.Params.working.Goals as goal
 
-pub returns-then-slack-self : goal.returns-then-slack-self
-unfolding working
-returns-then-slack-self c = omega (arith, c.slack_parts-slack.ensures)
-
 pub returns : goal.returns
 unfolding working
-returns c = omega (arith, c.slack_parts-slack.ensures)
+returns c = omega arith
