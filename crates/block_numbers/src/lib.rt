@@ -22,9 +22,7 @@ pub fn places_of(set: NodeSet, out: &mut [u8])
     ensures { Placing set.0 out.old out.new }
 {
     let count = set.list(out);
-    let mut j = 0;
-    while j < count {
-        out[j] = out[j] - 1;
-        j += 1;
+    for place in out[..count].iter_mut() {
+        *place -= 1;
     }
 }

@@ -1,6 +1,6 @@
 -- The points of a set's nodes tell a polynomial: they are the points of the nodes that pass the set's test. Assumes nothing.
 use mathlib.Core.Path.{◌≡◌, refl, sym, ap, ◌∙◌, subst⁻¹}
-use mathlib.Core.List.{List}
+use mathlib.Core.List.{List, ◌++◌}
 use Prim.Native.Nat.{ℕ, ◌^◌, ◌≤◌, ◌<◌}
 use native.Mathlib.Omega.{arith}
 use lib.ListN.{length, get_or, take, drop, replicate}
@@ -35,14 +35,14 @@ points_of-points s h = subst⁻¹ (λ (m : ℕ). Points (tabulate m (point_at s)
 
 -- ---- what points_of leaves
 
-pub points-told : (s : ℕ) → s < 2 ^ 32 → (old : List ℕ) (count : ℕ) (l : List ℕ) → Listing s old count l → (t : ℕ) (new : List ℕ) → t ≡ count
-    → length l ≡ length old → Filled (λ i. point (get_or l i 0)) t l new → Pointing s old count new
+pub points-told : (s : ℕ) → s < 2 ^ 32 → (old : List ℕ) (count : ℕ) (l : List ℕ) → Listing s old count l → (t : ℕ) (front : List ℕ) → length l ≡ length old
+    → length (take count l) ≤ t → Filled (λ i. point (get_or (take count l) i 0)) t (take count l) front → Pointing s old count (front ++ drop count l)
 unfolding points_of
-points-told s h old count l lists t new all same filled =
+points-told s h old count l lists t front same all filled =
     record {
-      written = entries_told s h old count l lists point t new all same filled;
+      written = entries_told s h old count l lists point t front same all filled;
       counted = lists.counted;
-      kept = λ none. (entries-kept s h old count l lists point t new all same filled none, (lists.kept none).1);
+      kept = λ none. (entries-kept s h old count l lists point t front same all filled none, (lists.kept none).1);
     }
 
 -- .. of 32 zeros: the points are lent from its front

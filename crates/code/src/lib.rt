@@ -22,10 +22,8 @@ pub fn points_of(set: NodeSet, out: &mut [u8]) -> usize
     ensures { Pointing set.0 out.old result out.new }
 {
     let count = set.list(out);
-    let mut j = 0;
-    while j < count {
-        out[j] = point(Node(out[j])).0;
-        j += 1;
+    for place in out[..count].iter_mut() {
+        *place = point(Node(*place)).0;
     }
     count
 }

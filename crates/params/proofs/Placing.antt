@@ -8,6 +8,7 @@ use native.Mathlib.Nat.{mul-le-mul_right}
 use native.Mathlib.Omega.{arith}
 use lib.ListN.{length, get_or, take, drop, replicate, length-drop, take-append-drop, get_or-append, get_or-eq_default}
 use lib.Seq.{length-take-le, get_or-take, get_or-drop, drop_at, ext_get_or}
+use Rattle.std.proofs.lemmas.List.{nil_from_length}
 use Rattle.base.proofs.Cases.{eq-or}
 use Rattle.base.specs.Seq.{tabulate}
 use Rattle.base.proofs.Seq.{length-tabulate, get_d_tabulate, eq-tabulate, zeros-at}
@@ -90,55 +91,47 @@ placing-zeros s new h placed =
 
 -- what NodeSet::list leaves
 module _ (s : ℕ) (h : s < 2 ^ 32) (old : List ℕ) (count : ℕ) (l : List ℕ) (lists : Listing s old count l) where
-  -- nothing is counted where there is no room
-  counted-room : 0 < count → length old ≡ 32
-  counted-room some = ⊎_elim (λ e. e) (λ none. absurd (omega (arith, (lists.kept none).1))) (eq-or (length old) 32)
+  -- as many entries as are counted are there
+  pub list-fits : length l ≡ length old → count ≤ length l
+  list-fits same =
+      ⊎_elim (λ room. omega (arith, lists.counted room, size-most s h)) (λ none. omega (arith, (lists.kept none).1)) (eq-or (length old) 32)
 
-  pub node-inside : (i : ℕ) → i < count → i < length old
-  node-inside i hi =
-      let room = counted-room (omega arith) in
-      omega (arith, lists.counted room, size-most s h)
-
-  node_at : length old ≡ 32 → (i : ℕ) → i < size s → get_or l i 0 ≡ get_or (listed s) i 0
+  node_at : length old ≡ 32 → (i : ℕ) → i < count → get_or (take count l) i 0 ≡ get_or (listed s) i 0
   node_at room i hi =
-      ap (λ (k : List ℕ). get_or k i 0) (lists.written room)
-      ∙ get_or-append (listed s) (drop (size s) old) 0 i (omega (arith, length-listed s h))
+      get_or-take count l i 0 hi ∙ ap (λ (k : List ℕ). get_or k i 0) (lists.written room)
+      ∙ get_or-append (listed s) (drop (size s) old) 0 i (omega (arith, lists.counted room, length-listed s h))
 
-  pub node-positive : (i : ℕ) → i < count → 1 ≤ get_or l i 0
+  pub node-positive : (i : ℕ) → i < count → 1 ≤ get_or (take count l) i 0
   node-positive i hi =
-      let room = counted-room (omega arith) in
-      let lt : i < size s = omega (arith, lists.counted room) in
-      omega (arith, node_at room i lt, (place_of s i h lt).2)
+      ⊎_elim (λ room. omega (arith, node_at room i hi, (place_of s i h (omega (arith, lists.counted room))).2)) (λ none. absurd (omega (arith, (lists.kept none).1)))
+      (eq-or (length old) 32)
 
-  -- each node's entry has become f of the node
-  module _ (f : ℕ → ℕ) (t : ℕ) (new : List ℕ) (all : t ≡ count) (same : length l ≡ length old) (filled : Filled (λ i. f (get_or l i 0)) t l new) where
-    pub entries-kept : (length old ≡ 32 → ⊥) → new ≡ old
-    entries-kept none = ext_get_or 0 new l filled.same (λ i hi. filled.rest i (omega (arith, (lists.kept none).1))) ∙ (lists.kept none).0
+  -- each node's entry, at the front, has become f of the node
+  module _ (f : ℕ → ℕ) (t : ℕ) (front : List ℕ) (same : length l ≡ length old) (all : length (take count l) ≤ t)
+      (filled : Filled (λ i. f (get_or (take count l) i 0)) t (take count l) front) where
+    full : length (take count l) ≡ count
+    full = length-take-le count l (list-fits same)
 
-    pub entries_told : length old ≡ 32 → new ≡ tabulate (size s) (λ i. f (get_or (listed s) i 0)) ++ drop (size s) old
-    entries_told room = sym (take-append-drop (size s) new) ∙ ap₂ ◌++◌ front behind
-      where
-        full : length (take (size s) new) ≡ size s
-        full = length-take-le (size s) new (omega (arith, filled.same ∙ same ∙ room, size-most s h))
+    pub entries-kept : (length old ≡ 32 → ⊥) → front ++ drop count l ≡ old
+    entries-kept none =
+        let k = lists.kept none in
+        ap₂ (λ (x : List ℕ) (n : ℕ). x ++ drop n l) (nil_from_length front (omega (arith, filled.same, full, k.1))) k.1 ∙ k.0
 
-        front : take (size s) new ≡ tabulate (size s) (λ i. f (get_or (listed s) i 0))
-        front =
-            eq-tabulate (size s) _ (take (size s) new) full
-            (λ i hi. get_or-take (size s) new i 0 hi ∙ filled.done i (omega (arith, lists.counted room)) ∙ ap f (node_at room i hi))
-
-        behind : drop (size s) new ≡ drop (size s) old
-        behind =
-            ext_get_or 0 (drop (size s) new) (drop (size s) l) (simp length-drop (ap (λ (k : ℕ). k - size s) filled.same))
-            (λ i hi. get_or-drop (size s) new i 0 ∙ filled.rest (size s + i) (omega (arith, lists.counted room)) ∙ sym (get_or-drop (size s) l i 0))
-            ∙ ap (drop (size s)) (lists.written room) ∙ drop_at (listed s) (drop (size s) old) (size s) (length-listed s h)
+    pub entries_told : length old ≡ 32 → front ++ drop count l ≡ tabulate (size s) (λ i. f (get_or (listed s) i 0)) ++ drop (size s) old
+    entries_told room =
+        ap₂ ◌++◌
+        (eq-tabulate (size s) _ front (omega (arith, filled.same, full, lists.counted room))
+        (λ i hi. let lt : i < count = omega (arith, lists.counted room) in filled.done i (omega (arith, full)) ∙ ap f (node_at room i lt)))
+        (ap₂ drop (lists.counted room) (lists.written room) ∙ drop_at (listed s) (drop (size s) old) (size s) (length-listed s h))
 
   -- .. one less than the node
-  pub places-told : (t : ℕ) (new : List ℕ) → t ≡ count → length l ≡ length old → Filled (λ i. get_or l i 0 - 1) t l new → Placing s old new
-  places-told t new all same filled =
+  pub places-told : (t : ℕ) (front : List ℕ) → length l ≡ length old → length (take count l) ≤ t
+      → Filled (λ i. get_or (take count l) i 0 - 1) t (take count l) front → Placing s old (front ++ drop count l)
+  places-told t front same all filled =
       record {
         written = λ room.
-            entries_told (λ i. i - 1) t new all same filled room ∙ ap (λ (k : List ℕ). k ++ drop (size s) old) (sym places-front);
-        kept = entries-kept (λ i. i - 1) t new all same filled;
+            entries_told (λ i. i - 1) t front same all filled room ∙ ap (λ (k : List ℕ). k ++ drop (size s) old) (sym places-front);
+        kept = entries-kept (λ i. i - 1) t front same all filled;
       }
     where
       places-front : take (size s) (places_of s) ≡ tabulate (size s) (λ i. get_or (listed s) i 0 - 1)

@@ -1,36 +1,21 @@
-use mathlib.Core.Path.{ap, ◌∙◌}
-use Prim.Native.Nat.{ℕ, ◌-◌, ◌<◌}
+use mathlib.Core.Path.{sym}
 use native.Mathlib.Omega.{arith}
-use lib.ListN.{length}
-use Rattle.base.proofs.Filled.{filled_none, filled_more}
-use Rattle.params.proofs.Placing.{node-inside, node-positive, places-told}
+use lib.Seq.{length-take-le}
+use Rattle.params.proofs.Placing.{list-fits, node-positive, places-told}
 use Rattle.block_numbers.proofs.places_of.Goals as goal
 
-pub loop-j-init : goal.loop-j-init
-loop-j-init c = (omega arith, filled_none _ _)
+pub slice_bounds-place-items-end : goal.slice_bounds-place-items-end
+slice_bounds-place-items-end c = list-fits _ (omega arith) _ _ _ c.list-count.ensures c.list-count.auto.out
 
-pub bounds-out-j : goal.bounds-out-j
-bounds-out-j c =
-    omega (arith, c.loop-j.invariant.1.same, c.list-count.auto.out, node-inside _ (omega arith) _ _ _ c.list-count.ensures c.loop-j.j c.loop-j-test.true)
+pub slice_bounds-place-items-end-2 : goal.slice_bounds-place-items-end-2
+slice_bounds-place-items-end-2 c = sym (length-take-le _ _ (list-fits _ (omega arith) _ _ _ c.list-count.ensures c.list-count.auto.out))
 
-pub overflow_sub-out : goal.overflow_sub-out
-overflow_sub-out c =
-    let l = c.loop-j in
-    omega (arith, l.invariant.1.rest l.j (omega arith), node-positive _ (omega arith) _ _ _ c.list-count.ensures l.j c.loop-j-test.true)
-
-pub bounds-out-j-in-loop-j : goal.bounds-out-j-in-loop-j
-bounds-out-j-in-loop-j c =
-    omega (arith, c.loop-j.invariant.1.same, c.list-count.auto.out, node-inside _ (omega arith) _ _ _ c.list-count.ensures c.loop-j.j c.loop-j-test.true)
-
-pub loop-j-preserved : goal.loop-j-preserved
-loop-j-preserved c =
-    let l = c.loop-j in
-    let inside : l.j < length l.out =
-    omega (arith, l.invariant.1.same, c.list-count.auto.out, node-inside _ (omega arith) _ _ _ c.list-count.ensures l.j c.loop-j-test.true) in
-    (omega arith, filled_more _ l.j _ l.out _ inside (ap (λ (k : ℕ). k - 1) (l.invariant.1.rest l.j (omega arith))) l.invariant.1)
-
-pub shape_of-out : goal.shape_of-out
-shape_of-out c = c.loop-j.invariant.1.same ∙ c.list-count.auto.out
+pub overflow_sub-place : goal.overflow_sub-place
+overflow_sub-place c =
+    let l = c.loop-place in
+    let n = c.list-count in
+    let full = length-take-le n.result n.new.out (list-fits _ (omega arith) _ _ _ n.ensures n.auto.out) in
+    omega (arith, l.invariant.rest l.place-index (omega arith), node-positive _ (omega arith) _ _ _ n.ensures l.place-index (omega (arith, full)))
 
 pub returns : goal.returns
-returns c = places-told _ (omega arith) _ _ _ c.list-count.ensures c.loop-j.j _ (omega arith) c.list-count.auto.out c.loop-j.invariant.1
+returns c = places-told _ (omega arith) _ _ _ c.list-count.ensures _ _ c.list-count.auto.out c.loop-place-test.false c.loop-place.invariant

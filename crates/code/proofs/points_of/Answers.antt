@@ -1,33 +1,23 @@
-use mathlib.Core.Path.{ap, ◌∙◌}
-use Prim.Native.Nat.{◌<◌}
+use mathlib.Core.Path.{sym, ap, ◌∙◌}
 use native.Mathlib.Omega.{arith}
-use lib.ListN.{length}
-use Rattle.base.proofs.Filled.{filled_none, filled_more}
-use Rattle.params.proofs.Placing.{node-inside}
+use lib.Seq.{length-take-le}
+use Rattle.base.proofs.Filled.{filled_more}
+use Rattle.params.proofs.Placing.{list-fits}
 use Rattle.code.specs.Code.{point}
 use Rattle.code.proofs.Points.{points-told}
 use Rattle.code.proofs.points_of.Goals as goal
 
-pub loop-j-init : goal.loop-j-init
-loop-j-init c = (omega arith, filled_none _ _)
+pub slice_bounds-place-items-end : goal.slice_bounds-place-items-end
+slice_bounds-place-items-end c = list-fits _ (omega arith) _ _ _ c.list-count.ensures c.list-count.auto.out
 
-pub bounds-out-j : goal.bounds-out-j
-bounds-out-j c =
-    omega (arith, c.loop-j.invariant.1.same, c.list-count.auto.out, node-inside _ (omega arith) _ _ _ c.list-count.ensures c.loop-j.j c.loop-j-test.true)
+pub slice_bounds-place-items-end-2 : goal.slice_bounds-place-items-end-2
+slice_bounds-place-items-end-2 c = sym (length-take-le _ _ (list-fits _ (omega arith) _ _ _ c.list-count.ensures c.list-count.auto.out))
 
-pub bounds-out-j-in-loop-j : goal.bounds-out-j-in-loop-j
-bounds-out-j-in-loop-j c =
-    omega (arith, c.loop-j.invariant.1.same, c.list-count.auto.out, node-inside _ (omega arith) _ _ _ c.list-count.ensures c.loop-j.j c.loop-j-test.true)
-
-pub loop-j-preserved : goal.loop-j-preserved
-loop-j-preserved c =
-    let l = c.loop-j in
-    let inside : l.j < length l.out =
-    omega (arith, l.invariant.1.same, c.list-count.auto.out, node-inside _ (omega arith) _ _ _ c.list-count.ensures l.j c.loop-j-test.true) in
-    (omega arith, filled_more _ l.j _ l.out _ inside (c.point.ensures ∙ ap point (l.invariant.1.rest l.j (omega arith))) l.invariant.1)
-
-pub shape_of-out : goal.shape_of-out
-shape_of-out c = c.loop-j.invariant.1.same ∙ c.list-count.auto.out
+pub loop-place-preserved : goal.loop-place-preserved
+loop-place-preserved c =
+    let l = c.loop-place in
+    let w = l.invariant in
+    filled_more _ l.place-index _ l.place-items _ (omega arith) (c.point.ensures ∙ ap point (w.rest l.place-index (omega arith))) w
 
 pub returns : goal.returns
-returns c = points-told _ (omega arith) _ _ _ c.list-count.ensures c.loop-j.j _ (omega arith) c.list-count.auto.out c.loop-j.invariant.1
+returns c = points-told _ (omega arith) _ _ _ c.list-count.ensures _ _ c.list-count.auto.out c.loop-place-test.false c.loop-place.invariant
