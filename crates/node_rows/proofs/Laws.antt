@@ -1,17 +1,19 @@
 -- Rows over nodes, from those over points: what they ask of a set, and what they take to what, told by the nodes' points. Assumes nothing.
-use mathlib.Core.Path.{◌≡◌, sym, ap, ◌∙◌}
+use mathlib.Core.Path.{◌≡◌, sym, ap, ap₂, ◌∙◌}
+use mathlib.Core.Bool.{Bool, true, false, not, ◌&&◌}
 use mathlib.Core.List.{List}
 use Prim.Native.Nat.{ℕ, suc, ◌+◌, ◌*◌, ◌^◌, ◌≤◌, ◌<◌}
 use native.Mathlib.Omega.{arith}
-use lib.ListN.{length, take}
-use lib.Seq.{get_or-take, length-take-le}
+use lib.Dec.{leb}
+use lib.ListN.{length, get_or}
+use borrow.Author.Tests.{le-leb}
 use Rattle.base.specs.Seq.{tabulate, cell}
-use Rattle.base.specs.Parts.{Filled}
-use Rattle.base.proofs.Seq.{length-tabulate, get_d_tabulate, eq-tabulate}
+use Rattle.base.proofs.Seq.{length-tabulate, get_d_tabulate, tabulate-ext}
 use Rattle.field.specs.Field.{IsByte, add, mul, pow}
 use Rattle.field.specs.FiniteSum.{sum}
 use Rattle.interpolation.specs.Polynomial.{evaluate}
-use Rattle.params.specs.Nodes.{size}
+use Rattle.params.specs.Nodes.{has, size, count, listed, outside}
+use Rattle.params.proofs.Sets.{node-at-rank, count-ext, count-stop, count-range, range-yes, range-no, size-count, has-none}
 use Rattle.code.specs.Code.{point}
 use Rattle.code.specs.Points.{point_at, points_of}
 use Rattle.code.proofs.Points.{length-points_of, points_of-most, points_of-at, points_of-points}
@@ -31,21 +33,38 @@ point_powers-at n m i j hi hj =
     power_rows-at m (tabulate n (λ j. point (suc j))) i j (omega (arith, length-tabulate n (λ j. point (suc j)))) hj
     ∙ ap (λ (c : ℕ). pow c (suc j)) (get_d_tabulate n (λ j. point (suc j)) i hi)
 
--- what encoding_rows leaves: the points of the nodes 1, .., n are lent from the front of their room
-pub encodes-made : (n m : ℕ) → n ≤ 32 → (room points old new : List ℕ) → length room ≡ 32 → Filled (λ j. point (suc j)) n room points
-    → PowersPost (take n points) m old new → EncodesPost n m old new
+-- s has just the nodes 1, .., n, as `outside` tells them: each node's rank is one less than its number
+module _ (n s : ℕ) (small : n ≤ 32) (word : s < 2 ^ 32) (told : (i : ℕ) → has s i ≡ (outside n 0 i && leb i 32)) where
+  there : (j : ℕ) → j < n → has s (suc j) ≡ true
+  there j h =
+      told (suc j) ∙ ap₂ (λ (a b : Bool). (a && not b) && leb (suc j) 32) (range-yes n j h) (has-none (suc j)) ∙ le-leb (suc j) 32 (omega arith)
+
+  not-there : (j : ℕ) → n ≤ j → has s (suc j) ≡ false
+  not-there j h = told (suc j) ∙ ap (λ (a : Bool). (a && not (has 0 (suc j))) && leb (suc j) 32) (range-no n j h)
+
+  rank : (j : ℕ) → j ≤ n → count (has s) j ≡ j
+  rank j h = count-ext (has s) _ j (λ i hi. there i (omega arith) ∙ sym (range-yes j i hi)) ∙ count-range j j (omega arith)
+
+  pub first-points : points_of s ≡ tabulate n (λ j. point (suc j))
+  unfolding points_of
+  first-points =
+      ap (λ (m : ℕ). tabulate m (point_at s)) many
+      ∙ tabulate-ext n _ _ (λ j hj. ap (λ (k : ℕ). point (get_or (listed s) k 0)) (sym (rank j (omega arith))) ∙ ap point (node-at-rank (has s) 32 j (omega arith) (there j hj)))
+    where
+      many : size s ≡ n
+      many = size-count 32 s word ∙ count-stop (has s) n 32 small (λ j hj hk. not-there j hj) ∙ rank n (omega arith)
+
+-- what encoding_rows leaves
+pub encodes-made : (n m : ℕ) → n ≤ 32 → (points old new : List ℕ) → points ≡ tabulate n (λ j. point (suc j)) → PowersPost points m old new → EncodesPost n m old new
 unfolding point_powers
-encodes-made n m small room points old new full filled post =
+encodes-made n m small points old new all post =
     record {
       written = λ le fits. post.written (fits ∙ ap (λ (k : ℕ). k * m) (sym many)) ∙ ap (power_rows m) all;
       kept = λ none. post.kept (λ fits. none (small, fits ∙ ap (λ (k : ℕ). k * m) many));
     }
   where
-    many : length (take n points) ≡ n
-    many = length-take-le n points (omega (arith, filled.same ∙ full))
-
-    all : take n points ≡ tabulate n (λ j. point (suc j))
-    all = eq-tabulate n _ (take n points) many (λ j hj. get_or-take n points j 0 hj ∙ filled.done j hj)
+    many : length points ≡ n
+    many = ap length all ∙ length-tabulate n _
 
 -- ---- a reading
 

@@ -2,16 +2,13 @@
 // hands the lists on to crate coefficients, which knows of points alone. No crate above turns a node into a point.
 #![tactic(auto)]
 
-ghost use Rattle.std.specs.Prelude.{◌≡◌, suc, ◌≤◌, length};
-ghost use Rattle.base.specs.Parts.{Filled};
-ghost use Rattle.code.specs.Code.{point};
 ghost use Rattle.code.specs.Points.{points_of};
 ghost use Rattle.coefficients.specs.Coefficients.{ReadsPost, ExtendsPost};
 ghost use Rattle.node_rows.specs.Rows.{EncodesPost};
 
-use code::{point, points_of};
+use code::points_of;
 use coefficients::{completion_rows, power_rows, reading_rows};
-use params::{Node, NodeSet};
+use params::NodeSet;
 
 // rows := a row for each of the nodes 1, .., n: the powers 1, .., m of its point. Where n exceeds 32, or rows has not just the length of these, nothing is written.
 pub fn encoding_rows(n: usize, m: usize, rows: &mut [u8])
@@ -21,20 +18,8 @@ pub fn encoding_rows(n: usize, m: usize, rows: &mut [u8])
         return;
     }
     let mut points = [0u8; 32];
-    first_points(n, &mut points);
-    power_rows(&points[..n], m, rows);
-}
-
-// The first n of points := those of the nodes 1, .., n.
-fn first_points(n: usize, points: &mut [u8])
-    requires { (n ≤ 32) × (length points.old ≡ 32) }
-    ensures { Filled (λ j. point (suc j)) n points.old points.new }
-{
-    let mut j = 0;
-    while j < n {
-        points[j] = point(Node((j + 1) as u8)).0;
-        j += 1;
-    }
+    let count = points_of(NodeSet(0).outside(n), &mut points);
+    power_rows(&points[..count], m, rows);
 }
 
 // rows := what takes the blocks of from's nodes to the k leading parts, where message and slack have as many parts as from has nodes. Where it has fewer than k, or rows

@@ -1,12 +1,20 @@
 -- The list that is lent is that of the points of the nodes 1, .., n. Assumes nothing.
-use mathlib.Core.Path.{refl}
+use mathlib.Core.Path.{refl, ◌∙◌}
 use native.Mathlib.Omega.{arith}
-use Rattle.node_rows.proofs.Laws.{encodes-made}
+use Rattle.code.proofs.Points.{points-fit, points-count, points-front}
+use Rattle.node_rows.proofs.Laws.{first-points, encodes-made}
 use Rattle.node_rows.proofs.encoding_rows.Goals as goal
 
 pub returns-then-n-gt32 : goal.returns-then-n-gt32
 returns-then-n-gt32 c = record { written = λ le room. absurd (omega arith); kept = λ none. refl }
 
+pub slice_bounds-points-end : goal.slice_bounds-points-end
+slice_bounds-points-end c = points-fit _ _ _ c.points_of-count.ensures
+
+pub slice_bounds-power_rows-end : goal.slice_bounds-power_rows-end
+slice_bounds-power_rows-end c = points-count _ _ _ c.points_of-count.ensures
+
 pub returns : goal.returns
 returns c =
-    encodes-made _ _ (omega arith) _ _ _ _ refl c.first_points.ensures c.power_rows.ensures
+    encodes-made _ _ (omega arith) _ _ _
+    (points-front _ _ _ c.points_of-count.ensures ∙ first-points _ _ (omega arith) (omega arith) c.outside.ensures) c.power_rows.ensures
