@@ -1,9 +1,8 @@
 -- Decimal digits written from the last to the first: what is left of the number is to be written before the digits that are there. Assumes nothing.
 use mathlib.Core.Path.{◌≡◌, sym, ap, ap₂, ◌∙◌, subst}
 use mathlib.Core.List.{List, ◌∷◌}
-use Prim.Native.Nat.{ℕ, zero, suc, ◌+◌, ◌-◌, ◌/◌, ◌%◌, ◌^◌, ◌≤◌, ◌<◌}
+use Prim.Native.Nat.{ℕ, suc, ◌+◌, ◌-◌, ◌/◌, ◌%◌, ◌^◌, ◌≤◌, ◌<◌}
 use native.Mathlib.Nat.{pow-suc, div-lt_iff_lt-mul}
-use native.Mathlib.Numerals.{add-one}
 use native.Mathlib.Omega.{arith}
 use lib.ListN.{length, take, drop, set, length-drop, length-set}
 use lib.Seq.{take_all, drop-cons, drop-set-lt, get_or-set_same}
@@ -18,11 +17,6 @@ put-tail start digits text at old next new h e p =
     let f : take (20 - start) (drop start digits) ≡ drop start digits = take_all (20 - start) (drop start digits) (omega (arith, length-drop start digits)) in
     rw e at (rw f at p)
 
--- a number of two digits or more has room for one more
-pub more_room : (start n : ℕ) → 10 ≤ n → n < 10 ^ (start + 1) → 1 ≤ start
-more_room zero n h k = absurd (omega arith)
-more_room (suc start) n h k = omega arith
-
 pub fewer_digits : (most n : ℕ) → n < 10 ^ suc most → n / 10 < 10 ^ most
 fewer_digits most n h = (div-lt_iff_lt-mul {k = 10} (omega arith)).1 (subst (λ (k : ℕ). n < k) (pow-suc 10 most) h)
 
@@ -36,26 +30,20 @@ unfolding digits_before
 only-digit most n rest h = simp (lt-ltb n 10 h)
 
 module _ (start : ℕ) (digits : List ℕ) (inside : start < length digits) where
-  stored : (x : ℕ) → drop start (set digits start x) ≡ x ∷ drop (start + 1) digits
+  stored : (x : ℕ) → drop start (set digits start x) ≡ x ∷ drop (suc start) digits
   stored x =
       drop-cons (set digits start x) start 0 (simp length-set inside)
-      ∙ ap₂ ◌∷◌ (get_or-set_same digits start x 0 inside) (drop-set-lt (suc start) digits start x (omega arith) ∙ ap (λ (k : ℕ). drop k digits) (sym (add-one start)))
+      ∙ ap₂ ◌∷◌ (get_or-set_same digits start x 0 inside) (drop-set-lt (suc start) digits start x (omega arith))
 
   module _ (n : ℕ) where
     -- the number's last digit stored
-    pub one_less : 10 ≤ n → n < 10 ^ (start + 1)
-        → (n / 10 < 10 ^ (start - 1 + 1)) × (digits_before (start - 1 + 1) (n / 10) (drop (start - 1 + 1) (set digits start (48 + n % 10)))
-        ≡ digits_before (start + 1) n (drop (start + 1) digits))
-    one_less h k =
-        let e : start - 1 + 1 ≡ start = omega (arith, more_room start n h k) in
-        rw e (
-          fewer_digits start n (rw add-one at k),
-          ap (digits_before start (n / 10)) (stored (48 + n % 10)) ∙ sym (last-digit start n (drop (start + 1) digits) h)
-              ∙ ap (λ (m : ℕ). digits_before m n (drop (start + 1) digits)) (sym (add-one start)),
-        )
+    pub one_less : (n / 10 ≡ 0 → ⊥)
+        → digits_before start (n / 10) (drop start (set digits start (48 + n % 10))) ≡ digits_before (suc start) n (drop (suc start) digits)
+    one_less more =
+        ap (digits_before start (n / 10)) (stored (48 + n % 10)) ∙ sym (last-digit start n (drop (suc start) digits) (omega (arith, more)))
 
     -- its first
-    pub first-digit : n < 10 → drop start (set digits start (48 + n)) ≡ digits_before (start + 1) n (drop (start + 1) digits)
-    first-digit h =
-        stored (48 + n) ∙ sym (only-digit start n (drop (start + 1) digits) h)
-        ∙ ap (λ (m : ℕ). digits_before m n (drop (start + 1) digits)) (sym (add-one start))
+    pub first-digit : n / 10 ≡ 0 → drop start (set digits start (48 + n % 10)) ≡ digits_before (suc start) n (drop (suc start) digits)
+    first-digit last =
+        let e : n % 10 ≡ n = omega arith in
+        stored (48 + n % 10) ∙ ap (λ (d : ℕ). (48 + d) ∷ drop (suc start) digits) e ∙ sym (only-digit start n (drop (suc start) digits) (omega arith))

@@ -1,12 +1,12 @@
 -- Texts put into a buffer one after the other are put as one text: the lists' algebra. Assumes nothing.
 use mathlib.Core.Path.{◌≡◌, refl, sym, ap, ap₂, ◌∙◌}
 use mathlib.Core.List.{List, [], ◌∷◌, ◌++◌, append_assoc, append-nil}
-use Prim.Native.Nat.{ℕ, suc, ◌+◌, ◌/◌, ◌%◌, ◌≤◌, ◌<◌}
+use Prim.Native.Nat.{ℕ, suc, ◌+◌, ◌*◌, ◌/◌, ◌%◌, ◌≤◌, ◌<◌}
 use native.Mathlib.Nat.{add-zero, zero-add}
 use native.Mathlib.Numerals.{add-one}
 use native.Mathlib.Omega.{arith}
 use lib.ListN.{length, get_or, take, drop, set, length-append, length-set, take-append-drop}
-use lib.Seq.{length-take-le, take_at, drop_at, drop-drop, set_split, append_snoc, take-suc, take_all, take-length}
+use lib.Seq.{length-take-le, take_at, drop_at, drop-drop, set_split, append_snoc, take-suc}
 use Rattle.season_lines.specs.Lines.{hex_digit, hex, message_field, line_of, room, Wrote, LinePost}
 use Rattle.season_lines.specs.Writing.{TextAt}
 use Rattle.season_lines.proofs.Hexadecimal.{hex-append}
@@ -57,47 +57,24 @@ pub put-more : (s : List ℕ) (at : ℕ) (old : List ℕ) (m : ℕ) (mid : List 
     → TextAt (s ++ (x ∷ [])) at old (m + 1) (set mid m x)
 put-more s at old m mid x h k p = put_then s (x ∷ []) at old m mid (m + 1) (set mid m x) h p (put_one m mid x k)
 
--- ---- a text byte by byte
-
-pub put-start : (text : List ℕ) (at : ℕ) (l : List ℕ) → TextAt (take 0 text) at l (at + 0) l
-put-start text at l = rw add-zero (put-none at l)
-
-pub put_next : (text : List ℕ) (at : ℕ) (old : List ℕ) (i : ℕ) (mid : List ℕ) → at ≤ length old → at + i < length mid → i < length text
-    → TextAt (take i text) at old (at + i) mid → TextAt (take (i + 1) text) at old (at + (i + 1)) (set mid (at + i) (get_or text i 0))
-put_next text at old i mid h k j p =
-    let e : take (i + 1) text ≡ take i text ++ (get_or text i 0 ∷ []) = ap (λ (n : ℕ). take n text) (add-one i) ∙ take-suc text i 0 j in
-    let f : at + (i + 1) ≡ at + i + 1 = omega arith in
-    rw (e, f) (put-more (take i text) at old (at + i) mid (get_or text i 0) h k p)
-
-pub put_whole : (text : List ℕ) (at : ℕ) (old : List ℕ) (i : ℕ) (new : List ℕ) → i ≤ length text → length text ≤ i
-    → TextAt (take i text) at old (at + i) new → TextAt text at old (at + length text) new
-put_whole text at old i new h k p =
-    let e : i ≡ length text = omega arith in
-    let f : take (length text) text ≡ text = take-length text in
-    rw f at (rw e at p)
-
 -- ---- a message in hexadecimal, byte by byte
 
 pub hex-start : (message : List ℕ) (at : ℕ) (l : List ℕ) → TextAt (hex (take 0 message)) at l at l
 unfolding hex
 hex-start message at l = put-none at l
 
-pub hex-next : (message : List ℕ) (at : ℕ) (old : List ℕ) (i m : ℕ) (mid : List ℕ) (x y : ℕ) → at ≤ length old → m + 1 < length mid → i < length message
+pub hex-next : (message : List ℕ) (at : ℕ) (old : List ℕ) (i m : ℕ) (mid : List ℕ) (x y : ℕ) → m ≡ at + 2 * i → at ≤ length old → m + 1 < length mid → i < length message
     → x ≡ hex_digit (get_or message i 0 / 16) → y ≡ hex_digit (get_or message i 0 % 16) → TextAt (hex (take i message)) at old m mid
-    → TextAt (hex (take (i + 1) message)) at old (m + 2) (set (set mid m x) (m + 1) y)
-hex-next message at old i m mid x y h k j ex ey p =
+    → TextAt (hex (take (i + 1) message)) at old (at + 2 * (i + 1)) (set (set mid m x) (m + 1) y)
+hex-next message at old i m mid x y is h k j ex ey p =
     let e : take (i + 1) message ≡ take i message ++ (get_or message i 0 ∷ []) = ap (λ (n : ℕ). take n message) (add-one i) ∙ take-suc message i 0 j in
     let f : hex (take (i + 1) message) ≡ hex (take i message) ++ (x ∷ []) ++ (y ∷ [])
     = ap hex e ∙ hex-append (take i message) (get_or message i 0)
     ∙ ap₂ (λ (x y : ℕ). hex (take i message) ++ (x ∷ []) ++ (y ∷ [])) (sym ex) (sym ey) in
-    let n : m + 2 ≡ m + 1 + 1 = omega arith in
+    let n : at + 2 * (i + 1) ≡ m + 1 + 1 = omega arith in
     rw (f, n)
     (put-more (hex (take i message) ++ (x ∷ [])) at old (m + 1) (set mid m x) y h (simp length-set k)
     (put-more (hex (take i message)) at old m mid x h (omega arith) p))
-
-pub hex-whole : (message : List ℕ) (at : ℕ) (old : List ℕ) (i m : ℕ) (new : List ℕ) → length message ≤ i → TextAt (hex (take i message)) at old m new
-    → TextAt (hex message) at old m new
-hex-whole message at old i m new k p = let f : take i message ≡ message = take_all i message k in rw f at p
 
 -- ---- the message's field
 

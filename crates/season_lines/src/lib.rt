@@ -64,28 +64,24 @@ fn last_digits(number: usize, digits: &mut [u8]) -> usize
     requires { length digits.old ≡ 20 }
     ensures { (result ≤ 20) × (drop result digits.new ≡ decimal number) }
 {
-    let mut start: usize = 19;
     let mut rest = number;
-    while 10 <= rest {
+    for start in (0..20).rev() {
         digits[start] = 48 + (rest % 10) as u8;
-        rest = rest / 10;
-        start -= 1;
+        rest /= 10;
+        if rest == 0 {
+            return start;
+        }
     }
-    digits[start] = 48 + rest as u8;
-    start
+    0
 }
 
 fn put_bytes(line: &mut [u8], at: usize, text: &[u8]) -> usize
     requires { at + length text.now ≤ length line.old }
     ensures { TextAt text.now at line.old result line.new }
 {
-    let count = text.len();
-    let mut i = 0;
-    while i < count {
-        line[at + i] = text[i];
-        i += 1;
-    }
-    at + count
+    let end = at + text.len();
+    line[at..end].copy_from_slice(text);
+    end
 }
 
 // A space and the message, or nothing for an empty one.
@@ -93,7 +89,7 @@ fn put_message(line: &mut [u8], at: usize, message: &[u8]) -> usize
     requires { at + 1 + 2 * length message.now ≤ length line.old }
     ensures { TextAt (message_field message.now) at line.old result line.new }
 {
-    if message.len() == 0 {
+    if message.is_empty() {
         return at;
     }
     let start = put_byte(line, at, 32);
@@ -105,17 +101,13 @@ fn put_hex(line: &mut [u8], at: usize, message: &[u8]) -> usize
     requires { at + 2 * length message.now ≤ length line.old }
     ensures { TextAt (hex message.now) at line.old result line.new }
 {
-    let count = message.len();
-    let mut next = at;
-    let mut i = 0;
-    while i < count {
-        let x = message[i];
+    // by an index: what goes through chunks_exact_mut, no proof knows afterwards
+    for (i, x) in message.iter().enumerate() {
+        let next = at + 2 * i;
         line[next] = hex_digit(x / 16);
         line[next + 1] = hex_digit(x % 16);
-        next += 2;
-        i += 1;
     }
-    next
+    at + 2 * message.len()
 }
 
 // The digit of a number below 16, in lower case.
