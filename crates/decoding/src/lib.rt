@@ -34,26 +34,19 @@ fn decode_parts(a: Params, codeword: &[u8], from: NodeSet, out: &mut [u8])
     ensures { Recovered a codeword.now from.0 out.new }
 {
     if a.k * from.size() <= 128 {
-        decode_128(a, codeword, from, out);
+        decode_in::<128>(a, codeword, from, out);
         return;
     }
-    decode_1024(a, codeword, from, out);
+    decode_in::<1024>(a, codeword, from, out);
 }
 
-fn decode_128(a: Params, codeword: &[u8], from: NodeSet, out: &mut [u8])
+fn decode_in<const ROOM: usize>(a: Params, codeword: &[u8], from: NodeSet, out: &mut [u8])
     requires decodable { Decodable a (length codeword.now) (length out.old) from.0 }
-    requires from_bound { a.k * size from.0 ≤ 128 }
+    requires room { a.k * size from.0 ≤ ROOM }
+    requires small { ROOM ≤ 32768 }
     ensures { Recovered a codeword.now from.0 out.new }
 {
-    let mut rows = [0u8; 128];
-    decode_within(a, codeword, from, &mut rows, out);
-}
-
-fn decode_1024(a: Params, codeword: &[u8], from: NodeSet, out: &mut [u8])
-    requires { Decodable a (length codeword.now) (length out.old) from.0 }
-    ensures { Recovered a codeword.now from.0 out.new }
-{
-    let mut rows = [0u8; 1024];
+    let mut rows = [0u8; ROOM];
     decode_within(a, codeword, from, &mut rows, out);
 }
 

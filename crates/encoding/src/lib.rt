@@ -46,11 +46,11 @@ fn encode_blocks(a: Params, message: &[u8], slack: &[u8], codeword: &mut [u8])
     }
     let size = message.len() + slack.len();
     if size <= 64 {
-        encode_64(a, message, slack, codeword);
+        encode_in::<64>(a, message, slack, codeword);
         return;
     }
     if size <= 1024 {
-        encode_1024(a, message, slack, codeword);
+        encode_in::<1024>(a, message, slack, codeword);
         return;
     }
     encode_large(a, message, slack, codeword);
@@ -61,44 +61,19 @@ fn encode_large(a: Params, message: &[u8], slack: &[u8], codeword: &mut [u8])
     ensures { Encoded a message.now slack.now codeword.new }
 {
     if message.len() + slack.len() <= 10240 {
-        encode_10240(a, message, slack, codeword);
+        encode_in::<10240>(a, message, slack, codeword);
         return;
     }
-    encode_32768(a, message, slack, codeword);
+    encode_in::<32768>(a, message, slack, codeword);
 }
 
-fn encode_64(a: Params, message: &[u8], slack: &[u8], codeword: &mut [u8])
+fn encode_in<const ROOM: usize>(a: Params, message: &[u8], slack: &[u8], codeword: &mut [u8])
     requires encodable { Encodable a (length message.now) (length slack.now) (length codeword.old) }
-    requires slack_len_bound { length message.now + length slack.now ≤ 64 }
+    requires room { length message.now + length slack.now ≤ ROOM }
+    requires small { ROOM ≤ 32768 }
     ensures { Encoded a message.now slack.now codeword.new }
 {
-    let mut parts = [0u8; 64];
-    encode_joined(a, message, slack, &mut parts, codeword);
-}
-
-fn encode_1024(a: Params, message: &[u8], slack: &[u8], codeword: &mut [u8])
-    requires encodable { Encodable a (length message.now) (length slack.now) (length codeword.old) }
-    requires slack_len_bound { length message.now + length slack.now ≤ 1024 }
-    ensures { Encoded a message.now slack.now codeword.new }
-{
-    let mut parts = [0u8; 1024];
-    encode_joined(a, message, slack, &mut parts, codeword);
-}
-
-fn encode_10240(a: Params, message: &[u8], slack: &[u8], codeword: &mut [u8])
-    requires encodable { Encodable a (length message.now) (length slack.now) (length codeword.old) }
-    requires slack_len_bound { length message.now + length slack.now ≤ 10240 }
-    ensures { Encoded a message.now slack.now codeword.new }
-{
-    let mut parts = [0u8; 10240];
-    encode_joined(a, message, slack, &mut parts, codeword);
-}
-
-fn encode_32768(a: Params, message: &[u8], slack: &[u8], codeword: &mut [u8])
-    requires { Encodable a (length message.now) (length slack.now) (length codeword.old) }
-    ensures { Encoded a message.now slack.now codeword.new }
-{
-    let mut parts = [0u8; 32768];
+    let mut parts = [0u8; ROOM];
     encode_joined(a, message, slack, &mut parts, codeword);
 }
 
@@ -121,19 +96,19 @@ fn encode_parts(a: Params, parts: &[u8], codeword: &mut [u8])
     ensures { Encoded a (take (a.k * a.b) parts.now) (drop (a.k * a.b) parts.now) codeword.new }
 {
     if a.n * a.working() <= 128 {
-        encode_parts_128(a, parts, codeword);
+        encode_parts_in::<128>(a, parts, codeword);
         return;
     }
-    let mut rows = [0u8; 1024];
-    encode_within(a, parts, &mut rows, codeword);
+    encode_parts_in::<1024>(a, parts, codeword);
 }
 
-fn encode_parts_128(a: Params, parts: &[u8], codeword: &mut [u8])
+fn encode_parts_in<const ROOM: usize>(a: Params, parts: &[u8], codeword: &mut [u8])
     requires raisable { Raisable a (length parts.now) (length codeword.old) }
-    requires a_bound { a.n * working a ≤ 128 }
+    requires room { a.n * working a ≤ ROOM }
+    requires small { ROOM ≤ 32768 }
     ensures { Encoded a (take (a.k * a.b) parts.now) (drop (a.k * a.b) parts.now) codeword.new }
 {
-    let mut rows = [0u8; 128];
+    let mut rows = [0u8; ROOM];
     encode_within(a, parts, &mut rows, codeword);
 }
 

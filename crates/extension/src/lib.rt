@@ -113,27 +113,13 @@ fn extend(
     ensures { Extended b e at.0 targets.0 message.now z.now places.now to.now out.old out.new }
 {
     if targets.size() * (e + at.size()) <= 128 {
-        extend_128(b, e, at, targets, message, z, places, to, out);
+        extend_in::<128>(b, e, at, targets, message, z, places, to, out);
         return;
     }
-    let mut leading = [0u8; 1024];
-    let mut gains = [0u8; 1024];
-    extend_within(
-        b,
-        e,
-        at,
-        targets,
-        message,
-        z,
-        places,
-        to,
-        &mut leading,
-        &mut gains,
-        out,
-    );
+    extend_in::<1024>(b, e, at, targets, message, z, places, to, out);
 }
 
-fn extend_128(
+fn extend_in<const ROOM: usize>(
     b: usize,
     e: usize,
     at: NodeSet,
@@ -145,11 +131,12 @@ fn extend_128(
     out: &mut [u8],
 )
     requires extendable { Extendable b e at.0 targets.0 places.now to.now (length message.now) (length z.now) (length out.old) }
-    requires at_bound { size targets.0 * (e + size at.0) ≤ 128 }
+    requires room { (size targets.0 * e ≤ ROOM) × (size targets.0 * size at.0 ≤ ROOM) }
+    requires small { ROOM ≤ 32768 }
     ensures { Extended b e at.0 targets.0 message.now z.now places.now to.now out.old out.new }
 {
-    let mut leading = [0u8; 128];
-    let mut gains = [0u8; 128];
+    let mut leading = [0u8; ROOM];
+    let mut gains = [0u8; ROOM];
     extend_within(
         b,
         e,

@@ -62,25 +62,13 @@ fn spread(a: Params, change: &[u8], to: NodeSet, takers: NodeSet, targets: &[u8]
     ensures { Spread a change.now to.0 takers.0 targets.now out.old out.new }
 {
     if targets.len() * a.n <= 128 {
-        spread_128(a, change, to, takers, targets, out);
+        spread_in::<128>(a, change, to, takers, targets, out);
         return;
     }
-    let mut leading = [0u8; 1024];
-    let mut gains = [0u8; 1024];
-    spread_within(
-        a,
-        change,
-        to,
-        takers,
-        targets,
-        &mut leading,
-        &mut gains,
-        out,
-    );
+    spread_in::<1024>(a, change, to, takers, targets, out);
 }
 
-// The same where 128 bytes are enough.
-fn spread_128(
+fn spread_in<const ROOM: usize>(
     a: Params,
     change: &[u8],
     to: NodeSet,
@@ -89,11 +77,12 @@ fn spread_128(
     out: &mut [u8],
 )
     requires spreadable { Spreadable a (length change.now) to.0 takers.0 targets.now (length out.old) }
-    requires n_len_bound { length targets.now * a.n ≤ 128 }
+    requires room { length targets.now * a.n ≤ ROOM }
+    requires small { ROOM ≤ 32768 }
     ensures { Spread a change.now to.0 takers.0 targets.now out.old out.new }
 {
-    let mut leading = [0u8; 128];
-    let mut gains = [0u8; 128];
+    let mut leading = [0u8; ROOM];
+    let mut gains = [0u8; ROOM];
     spread_within(
         a,
         change,

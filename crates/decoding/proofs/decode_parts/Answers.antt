@@ -1,20 +1,24 @@
--- The test is on the number of coefficients. Assumes nothing.
-use mathlib.Core.Path.{subst}
+-- The test is on the number of coefficients; at most 32 parts come of at most 32 nodes. Assumes nothing.
+use mathlib.Core.Path.{subst, subst⁻¹}
 use Prim.Native.Nat.{ℕ, ◌*◌, ◌^◌, ◌≤◌, ◌<◌}
 use native.Mathlib.Omega.{arith}
 use Rattle.base.proofs.Buffers.{areas-fit}
 use Rattle.params.proofs.Sets.{size-most}
+use Rattle.params.specs.Nodes.{size}
 use Rattle.decoding.proofs.ReadBack.{parts-few}
 use Rattle.decoding.proofs.decode_parts.Goals as goal
+use Rattle.decoding.proofs.decode_parts.Goals.{Start}
+
+most : (c : Start) → c.args.a.k * size c.args.from.0 ≤ 1024
+most c =
+    let word : c.args.from.0 < 2 ^ 32 = omega arith in
+    areas-fit _ _ (parts-few _ _ _ word c.args.codeword.now c.requires) (size-most c.args.from.0 word)
 
 pub overflow_mul-a : goal.overflow_mul-a
-overflow_mul-a c =
-    let s = c.args in
-    let word : s.from.0 < 2 ^ 32 = omega arith in
-    omega (arith, areas-fit s.a.k c.size.result (parts-few _ _ _ word s.codeword.now c.requires) (omega (arith, c.size.ensures, size-most s.from.0 word)))
+overflow_mul-a c = omega (arith, subst⁻¹ (λ (n : ℕ). c.args.a.k * n ≤ 1024) c.size.ensures (most (goal.at.overflow_mul-a c).Start))
 
-pub decode_128-requires : goal.decode_128-requires
-decode_128-requires c = record {
-  decodable = c.requires;
-  from_bound = subst (λ (n : ℕ). c.args.a.k * n ≤ 128) c.size.ensures (omega (arith, c.if-a-size-le128.true));
-}
+pub decode_in-requires-clause-room : goal.decode_in-requires-clause-room
+decode_in-requires-clause-room c = subst (λ (n : ℕ). c.args.a.k * n ≤ 128) c.size.ensures (omega (arith, c.if-a-size-le128.true))
+
+pub decode_in-requires-2-clause-room : goal.decode_in-requires-2-clause-room
+decode_in-requires-2-clause-room c = most (goal.at.decode_in-requires-2-clause-room c).Start
