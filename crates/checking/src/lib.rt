@@ -4,9 +4,11 @@
 
 mod searching;
 
-ghost use Rattle.code.specs.Calls.{CheckPost};
+ghost use Rattle.std.specs.Prelude.{◌≤◌, length};
+ghost use Rattle.code.specs.Calls.{CheckPost, Blames};
+ghost use Rattle.checking.specs.Cores.{Searchable};
 
-use code::Verdict;
+use code::{Blame, Verdict};
 use gates::check_gate;
 use params::Params;
 use searching::search;
@@ -21,17 +23,23 @@ pub fn check(a: Params, codeword: &[u8], budget: usize) -> Verdict
         return Verdict::Refused(refusal);
     }
     let size = (a.n - a.working()) * a.b;
-    if size <= 128 {
-        let mut fresh = [0u8; 128];
-        let blame = search(a, codeword, budget, &mut fresh);
-        return Verdict::Blamed(blame);
-    }
-    if size <= 1024 {
-        let mut fresh = [0u8; 1024];
-        let blame = search(a, codeword, budget, &mut fresh);
-        return Verdict::Blamed(blame);
-    }
-    let mut fresh = [0u8; 32768];
-    let blame = search(a, codeword, budget, &mut fresh);
+    let blame = if size <= 128 {
+        search_in::<128>(a, codeword, budget)
+    } else if size <= 1024 {
+        search_in::<1024>(a, codeword, budget)
+    } else {
+        search_in::<32768>(a, codeword, budget)
+    };
     Verdict::Blamed(blame)
+}
+
+// Kept apart, so that a call takes stack for its own room alone.
+#[inline(never)]
+fn search_in<const ROOM: usize>(a: Params, codeword: &[u8], budget: usize) -> Blame
+    requires searchable { Searchable a (length codeword.now) ROOM }
+    requires small { ROOM ≤ 32768 }
+    ensures { Blames a codeword.now budget result }
+{
+    let mut fresh = [0u8; ROOM];
+    search(a, codeword, budget, &mut fresh)
 }

@@ -35,9 +35,9 @@ fn decode_parts(a: Params, codeword: &[u8], from: NodeSet, out: &mut [u8])
 {
     if a.k * from.size() <= 128 {
         decode_in::<128>(a, codeword, from, out);
-        return;
+    } else {
+        decode_in::<1024>(a, codeword, from, out);
     }
-    decode_in::<1024>(a, codeword, from, out);
 }
 
 fn decode_in<const ROOM: usize>(a: Params, codeword: &[u8], from: NodeSet, out: &mut [u8])

@@ -45,9 +45,6 @@ module _ (message slack room mid last : List ℕ) (fits : length message + lengt
 -- ---- and their lengths
 
 module _ (a : Params) (message slack : List ℕ) (codeword : ℕ) (ok : Encodable a (length message) (length slack) codeword) where
-  pub both_most : length message + length slack ≤ 32768
-  both_most = omega (arith, ok.both.parts_length, blocks-most (working a) a.b ok.both.parts_high ok.b_high)
-
   -- of the parts side by side, the first k are the message
   pub apart : (parts new : List ℕ) → parts ≡ message ++ slack → Encoded a (take (a.k * a.b) parts) (drop (a.k * a.b) parts) new
       → Encoded a message slack new

@@ -34,39 +34,25 @@ pub fn encode(
     0
 }
 
-// Makes room for message and slack side by side, about as much as is wanted, since room is cleared at each call. The function for the larger rooms is called at two
-// places, and the first test is there for that alone: the compiler then keeps it apart, and a small call takes no stack for them.
+// Makes room for message and slack side by side, about as much as is wanted, since room is cleared at each call.
 fn encode_blocks(a: Params, message: &[u8], slack: &[u8], codeword: &mut [u8])
     requires { Encodable a (length message.now) (length slack.now) (length codeword.old) }
     ensures { Encoded a message.now slack.now codeword.new }
 {
-    if 512 < a.b {
-        encode_large(a, message, slack, codeword);
-        return;
-    }
     let size = message.len() + slack.len();
     if size <= 64 {
         encode_in::<64>(a, message, slack, codeword);
-        return;
-    }
-    if size <= 1024 {
+    } else if size <= 1024 {
         encode_in::<1024>(a, message, slack, codeword);
-        return;
-    }
-    encode_large(a, message, slack, codeword);
-}
-
-fn encode_large(a: Params, message: &[u8], slack: &[u8], codeword: &mut [u8])
-    requires { Encodable a (length message.now) (length slack.now) (length codeword.old) }
-    ensures { Encoded a message.now slack.now codeword.new }
-{
-    if message.len() + slack.len() <= 10240 {
+    } else if size <= 10240 {
         encode_in::<10240>(a, message, slack, codeword);
-        return;
+    } else {
+        encode_in::<32768>(a, message, slack, codeword);
     }
-    encode_in::<32768>(a, message, slack, codeword);
 }
 
+// Kept apart, so that a call takes stack for its own room alone.
+#[inline(never)]
 fn encode_in<const ROOM: usize>(a: Params, message: &[u8], slack: &[u8], codeword: &mut [u8])
     requires encodable { Encodable a (length message.now) (length slack.now) (length codeword.old) }
     requires room { length message.now + length slack.now ≤ ROOM }
@@ -97,9 +83,9 @@ fn encode_parts(a: Params, parts: &[u8], codeword: &mut [u8])
 {
     if a.n * a.working() <= 128 {
         encode_parts_in::<128>(a, parts, codeword);
-        return;
+    } else {
+        encode_parts_in::<1024>(a, parts, codeword);
     }
-    encode_parts_in::<1024>(a, parts, codeword);
 }
 
 fn encode_parts_in<const ROOM: usize>(a: Params, parts: &[u8], codeword: &mut [u8])

@@ -114,9 +114,9 @@ fn extend(
 {
     if targets.size() * (e + at.size()) <= 128 {
         extend_in::<128>(b, e, at, targets, message, z, places, to, out);
-        return;
+    } else {
+        extend_in::<1024>(b, e, at, targets, message, z, places, to, out);
     }
-    extend_in::<1024>(b, e, at, targets, message, z, places, to, out);
 }
 
 fn extend_in<const ROOM: usize>(

@@ -32,40 +32,32 @@ pub fn repair(
     0
 }
 
-// Makes room for the lost blocks, no more than is wanted, since room is cleared at each call. The function for rooms over 128 bytes has three of them and is called
-// at two places, the first test being there for that alone: the compiler then keeps it apart, and a small call takes no stack for these rooms.
+// Makes room for the lost blocks, no more than is wanted, since room is cleared at each call.
 fn repair_blocks(a: Params, codeword: &mut [u8], from: NodeSet, lost: NodeSet)
     requires { Rebuildable a from.0 lost.0 (length codeword.old) }
     ensures { Rebuilt a from.0 lost.0 codeword.old codeword.new }
 {
-    if 512 < a.b {
-        repair_over_128(a, codeword, from, lost);
-        return;
+    let size = lost.size() * a.b;
+    if size <= 128 {
+        repair_in::<128>(a, codeword, from, lost);
+    } else if size <= 1024 {
+        repair_in::<1024>(a, codeword, from, lost);
+    } else if size <= 8192 {
+        repair_in::<8192>(a, codeword, from, lost);
+    } else {
+        repair_in::<32768>(a, codeword, from, lost);
     }
-    if 128 < lost.size() * a.b {
-        repair_over_128(a, codeword, from, lost);
-        return;
-    }
-    let mut fresh = [0u8; 128];
-    repair_within(a, codeword, from, lost, &mut fresh);
 }
 
-fn repair_over_128(a: Params, codeword: &mut [u8], from: NodeSet, lost: NodeSet)
-    requires { Rebuildable a from.0 lost.0 (length codeword.old) }
+// Kept apart, so that a call takes stack for its own room alone.
+#[inline(never)]
+fn repair_in<const ROOM: usize>(a: Params, codeword: &mut [u8], from: NodeSet, lost: NodeSet)
+    requires rebuildable { Rebuildable a from.0 lost.0 (length codeword.old) }
+    requires room { size lost.0 * a.b ≤ ROOM }
+    requires small { ROOM ≤ 32768 }
     ensures { Rebuilt a from.0 lost.0 codeword.old codeword.new }
 {
-    let size = lost.size() * a.b;
-    if size <= 1024 {
-        let mut fresh = [0u8; 1024];
-        repair_within(a, codeword, from, lost, &mut fresh);
-        return;
-    }
-    if size <= 8192 {
-        let mut fresh = [0u8; 8192];
-        repair_within(a, codeword, from, lost, &mut fresh);
-        return;
-    }
-    let mut fresh = [0u8; 32768];
+    let mut fresh = [0u8; ROOM];
     repair_within(a, codeword, from, lost, &mut fresh);
 }
 

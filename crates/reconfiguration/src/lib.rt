@@ -51,8 +51,7 @@ pub fn reconfigure(
     0
 }
 
-// Makes room for the old pair's blocks outside W', no more than is wanted, since room is cleared at each call. The function for rooms over 128 bytes is called at
-// two places as in `repair_blocks` of crate maintenance, but here the compiler makes it part of the call all the same.
+// Makes room for the old pair's blocks outside W', no more than is wanted, since room is cleared at each call.
 fn reconfigure_blocks(
     a: Params,
     shape: Shape,
@@ -65,19 +64,19 @@ fn reconfigure_blocks(
     requires { Reconfigurable a shape (length codeword.now) (length out.old) (length message.now) from.0 to.0 }
     ensures { Rewritten a shape codeword.now from.0 to.0 message.now out.new }
 {
-    if 512 < a.b {
-        reconfigure_over_128(a, shape, codeword, from, to, message, out);
-        return;
+    let size = to.outside(shape.n).size() * a.b;
+    if size <= 128 {
+        reconfigure_in::<128>(a, shape, codeword, from, to, message, out);
+    } else if size <= 1024 {
+        reconfigure_in::<1024>(a, shape, codeword, from, to, message, out);
+    } else {
+        reconfigure_in::<32768>(a, shape, codeword, from, to, message, out);
     }
-    if 128 < to.outside(shape.n).size() * a.b {
-        reconfigure_over_128(a, shape, codeword, from, to, message, out);
-        return;
-    }
-    let mut z = [0u8; 128];
-    reconfigure_within(a, shape, codeword, from, to, message, &mut z, out);
 }
 
-fn reconfigure_over_128(
+// Kept apart, so that a call takes stack for its own room alone.
+#[inline(never)]
+fn reconfigure_in<const ROOM: usize>(
     a: Params,
     shape: Shape,
     codeword: &[u8],
@@ -86,16 +85,12 @@ fn reconfigure_over_128(
     message: &[u8],
     out: &mut [u8],
 )
-    requires { Reconfigurable a shape (length codeword.now) (length out.old) (length message.now) from.0 to.0 }
+    requires reconfigurable { Reconfigurable a shape (length codeword.now) (length out.old) (length message.now) from.0 to.0 }
+    requires room { slack_parts (reshaped a shape) * a.b ≤ ROOM }
+    requires small { ROOM ≤ 32768 }
     ensures { Rewritten a shape codeword.now from.0 to.0 message.now out.new }
 {
-    let size = to.outside(shape.n).size() * a.b;
-    if size <= 1024 {
-        let mut z = [0u8; 1024];
-        reconfigure_within(a, shape, codeword, from, to, message, &mut z, out);
-        return;
-    }
-    let mut z = [0u8; 32768];
+    let mut z = [0u8; ROOM];
     reconfigure_within(a, shape, codeword, from, to, message, &mut z, out);
 }
 

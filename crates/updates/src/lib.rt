@@ -63,9 +63,9 @@ fn spread(a: Params, change: &[u8], to: NodeSet, takers: NodeSet, targets: &[u8]
 {
     if targets.len() * a.n <= 128 {
         spread_in::<128>(a, change, to, takers, targets, out);
-        return;
+    } else {
+        spread_in::<1024>(a, change, to, takers, targets, out);
     }
-    spread_in::<1024>(a, change, to, takers, targets, out);
 }
 
 fn spread_in<const ROOM: usize>(

@@ -1,57 +1,48 @@
 -- Refused, the number alone; else the search's answer. Each of the three rooms is enough for the blocks that it is made for: the largest has place for 32 of 1,024
 -- bytes. Assumes nothing.
 use mathlib.Core.Path.{◌≡◌, sym, ◌∙◌, subst}
-use Prim.Native.Nat.{ℕ, ◌-◌, ◌*◌, ◌^◌, ◌≤◌, min}
+use Prim.Native.Nat.{ℕ, ◌-◌, ◌*◌, ◌≤◌}
 use native.Mathlib.Omega.{arith}
+use lib.ListN.{length}
 use Rattle.params.specs.Params.{working}
-use Rattle.params.specs.declared.Params.{Params}
-use Rattle.gates.specs.Gates.{check_gate}
 use Rattle.gates.proofs.Valid.{working-le, working-known, check-accepted, blocks-most}
 use Rattle.consistency.specs.Tested.{Checkable}
+use Rattle.checking.specs.Cores.{Searchable}
 use Rattle.checking.proofs.check.Goals as goal
+use Rattle.checking.proofs.check.Goals.{After-working}
 
-module _ (a : Params) (codeword refusal q : ℕ) (gate : refusal ≡ check_gate a codeword) (none : refusal ≡ 0) (told : q ≡ min (working a) (2 ^ 64 - 1)) where
-  ok : Checkable a codeword
+module _ (c : After-working) where
+  ok : Checkable c.args.a (length c.args.codeword.now)
   ok =
-      let accepted = (check-accepted _ _).0 (sym gate ∙ none) in
+      let accepted = (check-accepted _ _).0 (sym c.check_gate-refusal.ensures ∙ c.if-refusal-ne0.false) in
       record { valid = accepted.valid; codeword_length = accepted.codeword_length }
 
-  exact : q ≡ working a
-  exact = working-known a ok.valid _ told
+  exact : c.working.result ≡ working c.args.a
+  exact = working-known c.args.a ok.valid _ c.working.ensures
 
-  -- the room that is wanted
-  wanted : (m : ℕ) → (a.n - q) * a.b ≤ m → (a.n - working a) * a.b ≤ m
-  wanted m = subst (λ (q : ℕ). (a.n - q) * a.b ≤ m) exact
+  most : (c.args.a.n - c.working.result) * c.args.a.b ≤ 32768
+  most = blocks-most (c.args.a.n - c.working.result) c.args.a.b (omega (arith, ok.valid.shape.n_high)) ok.valid.b_high
+
+  enough : (m : ℕ) → (c.args.a.n - c.working.result) * c.args.a.b ≤ m → Searchable c.args.a (length c.args.codeword.now) m
+  enough m fits = record { check = ok; room = subst (λ (q : ℕ). (c.args.a.n - q) * c.args.a.b ≤ m) exact fits }
 
 pub overflow_sub-size : goal.overflow_sub-size
 overflow_sub-size c =
-    let v = ok c.args.a _ _ _ c.check_gate-refusal.ensures c.if-refusal-ne0.false c.working.ensures in
-    omega (arith, exact c.args.a _ _ _ c.check_gate-refusal.ensures c.if-refusal-ne0.false c.working.ensures, working-le c.args.a v.valid)
+    let l = (goal.at.overflow_sub-size c).After-working in
+    omega (arith, exact l, working-le c.args.a (ok l).valid)
 
 pub overflow_mul-size : goal.overflow_mul-size
-overflow_mul-size c =
-    let v = ok c.args.a _ _ _ c.check_gate-refusal.ensures c.if-refusal-ne0.false c.working.ensures in
-    record { fits = omega (arith, blocks-most (c.args.a.n - c.working.result) c.args.a.b (omega (arith, v.valid.shape.n_high)) v.valid.b_high) }
+overflow_mul-size c = record { fits = omega (arith, most (goal.at.overflow_mul-size c).After-working) }
 
-pub search-blame-requires : goal.search-blame-requires
-search-blame-requires c =
-    let gate = c.check_gate-refusal.ensures in
-    let none = c.if-refusal-ne0.false in
-    record {
-      check = ok c.args.a _ _ _ gate none c.working.ensures;
-      room = wanted c.args.a _ _ _ gate none c.working.ensures 128 (omega (arith, c.if-size-le128.true));
-    }
+pub search_in-blame-requires-clause-searchable : goal.search_in-blame-requires-clause-searchable
+search_in-blame-requires-clause-searchable c =
+    enough (goal.at.search_in-blame-requires-clause-searchable c).After-working 128 (omega (arith, c.if-size-le128.true))
 
-pub search-blame-requires-then-size-le1024 : goal.search-blame-requires-then-size-le1024
-search-blame-requires-then-size-le1024 c =
-    let gate = c.check_gate-refusal.ensures in
-    let none = c.if-refusal-ne0.false in
-    record {
-      check = ok c.args.a _ _ _ gate none c.working.ensures;
-      room = wanted c.args.a _ _ _ gate none c.working.ensures 1024 (omega (arith, c.if-size-le1024.true));
-    }
+pub search_in-requires-clause-searchable : goal.search_in-requires-clause-searchable
+search_in-requires-clause-searchable c =
+    enough (goal.at.search_in-requires-clause-searchable c).After-working 1024 (omega (arith, c.if-size-le1024.true))
 
-pub search-blame-requires-2 : goal.search-blame-requires-2
-search-blame-requires-2 c =
-    let v = ok c.args.a _ _ _ c.check_gate-refusal.ensures c.if-refusal-ne0.false c.working.ensures in
-    record { check = v; room = blocks-most _ c.args.a.b (omega (arith, v.valid.shape.n_high)) v.valid.b_high }
+pub search_in-requires-else-size-le1024-clause-searchable : goal.search_in-requires-else-size-le1024-clause-searchable
+search_in-requires-else-size-le1024-clause-searchable c =
+    let l = (goal.at.search_in-requires-else-size-le1024-clause-searchable c).After-working in
+    enough l 32768 (most l)

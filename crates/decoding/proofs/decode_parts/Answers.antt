@@ -1,10 +1,10 @@
 -- The test is on the number of coefficients; at most 32 parts come of at most 32 nodes. Assumes nothing.
-use mathlib.Core.Path.{subst, subst⁻¹}
+use mathlib.Core.Path.{subst⁻¹}
 use Prim.Native.Nat.{ℕ, ◌*◌, ◌^◌, ◌≤◌, ◌<◌}
 use native.Mathlib.Omega.{arith}
 use Rattle.base.proofs.Buffers.{areas-fit}
-use Rattle.params.proofs.Sets.{size-most}
 use Rattle.params.specs.Nodes.{size}
+use Rattle.params.proofs.Sets.{size-most}
 use Rattle.decoding.proofs.ReadBack.{parts-few}
 use Rattle.decoding.proofs.decode_parts.Goals as goal
 use Rattle.decoding.proofs.decode_parts.Goals.{Start}
@@ -17,8 +17,5 @@ most c =
 pub overflow_mul-a : goal.overflow_mul-a
 overflow_mul-a c = omega (arith, subst⁻¹ (λ (n : ℕ). c.args.a.k * n ≤ 1024) c.size.ensures (most (goal.at.overflow_mul-a c).Start))
 
-pub decode_in-requires-clause-room : goal.decode_in-requires-clause-room
-decode_in-requires-clause-room c = subst (λ (n : ℕ). c.args.a.k * n ≤ 128) c.size.ensures (omega (arith, c.if-a-size-le128.true))
-
-pub decode_in-requires-2-clause-room : goal.decode_in-requires-2-clause-room
-decode_in-requires-2-clause-room c = most (goal.at.decode_in-requires-2-clause-room c).Start
+pub decode_in-requires-else-a-size-le128-clause-room : goal.decode_in-requires-else-a-size-le128-clause-room
+decode_in-requires-else-a-size-le128-clause-room c = most (goal.at.decode_in-requires-else-a-size-le128-clause-room c).Start

@@ -12,7 +12,7 @@ overflow_mul-size c =
     let width : c.args.e + c.size-2.result ≤ 64 = omega (arith, c.requires.most, c.size-2.ensures, size-most c.args.at.0 (omega arith)) in
     omega (arith, mul-le-mul rows width)
 
-pub extend_in-requires-2-clause-room : goal.extend_in-requires-2-clause-room
-extend_in-requires-2-clause-room c =
+pub extend_in-requires-else-size-e-le128-clause-room : goal.extend_in-requires-else-size-e-le128-clause-room
+extend_in-requires-else-size-e-le128-clause-room c =
     let rows = size-most c.args.targets.0 (omega arith) in
     (areas-fit _ _ rows c.requires.most, areas-fit _ _ rows (size-most c.args.at.0 (omega arith)))

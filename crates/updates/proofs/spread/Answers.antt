@@ -14,6 +14,6 @@ room c = areas-fit (length c.args.targets.now) c.args.a.n (omega (arith, c.requi
 pub overflow_mul-targets : goal.overflow_mul-targets
 overflow_mul-targets c = omega (arith, room (goal.at.overflow_mul-targets c).Start)
 
-pub spread_in-requires-2-clause-room : goal.spread_in-requires-2-clause-room
-spread_in-requires-2-clause-room c =
-    room (goal.at.spread_in-requires-2-clause-room c).Start
+pub spread_in-requires-else-targets-a-le128-clause-room : goal.spread_in-requires-else-targets-a-le128-clause-room
+spread_in-requires-else-targets-a-le128-clause-room c =
+    room (goal.at.spread_in-requires-else-targets-a-le128-clause-room c).Start
