@@ -119,6 +119,8 @@ fn extend(
     }
 }
 
+// Kept apart, so that a call takes stack for its own rooms alone.
+#[inline(never)]
 fn extend_in<const ROOM: usize>(
     b: usize,
     e: usize,

@@ -68,6 +68,8 @@ fn spread(a: Params, change: &[u8], to: NodeSet, takers: NodeSet, targets: &[u8]
     }
 }
 
+// Kept apart, so that a call takes stack for its own rooms alone.
+#[inline(never)]
 fn spread_in<const ROOM: usize>(
     a: Params,
     change: &[u8],
