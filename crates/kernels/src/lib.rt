@@ -2,16 +2,12 @@
 // so that what stands behind it can be replaced by something faster.
 #![tactic(auto)]
 
-mod short;
-
-ghost use Rattle.std.specs.Prelude.{◌≡◌, true, ◌≤◌};
 ghost use Rattle.products.specs.Blocks.{Added};
 
-use products::fits;
-use tiled_products::add_tiled;
+use tiled_products::{add_short, add_tiled};
 
 // A matrix of coefficients times the blocks of src at the given places: row i of the product is added to block targets[i] of out. Blocks have b bytes, and row i of
-// the coefficients begins at i·stride. Where the product does not fit the slices, nothing is written: the tiled product refuses it.
+// the coefficients begins at i·stride. Where the product does not fit the slices, nothing is written: the products in tiles refuse it.
 pub fn add_product(
     out: &mut [u8],
     targets: &[u8],
@@ -24,37 +20,13 @@ pub fn add_product(
     ensures { Added b stride src.now targets.now places.now coeffs.now out.old out.new }
 {
     if prefers_short(targets.len(), b, places.len()) {
-        if fits(
-            b,
-            stride,
-            targets,
-            places,
-            src.len(),
-            coeffs.len(),
-            out.len(),
-        ) {
-            short::add_short(out, targets, b, src, places, coeffs, stride);
-            return;
-        }
+        add_short(out, targets, b, src, places, coeffs, stride);
+        return;
     }
     add_tiled(out, targets, b, src, places, coeffs, stride);
 }
 
 // Whether a product goes in short tiles: two rows or more, few bytes in all, and no more than the eight rows and four columns that short tiles have room for.
-fn prefers_short(rows: usize, b: usize, width: usize) -> bool
-    ensures { result ≡ true → (rows ≤ 8) × (width ≤ 4) }
-{
-    if rows < 2 {
-        return false;
-    }
-    if 8 < rows {
-        return false;
-    }
-    if 4 < width {
-        return false;
-    }
-    if 512 < b {
-        return false;
-    }
-    rows * b <= 512
+fn prefers_short(rows: usize, b: usize, width: usize) -> bool {
+    2 <= rows && rows <= 8 && width <= 4 && b <= 512 && rows * b <= 512
 }

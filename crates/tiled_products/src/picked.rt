@@ -3,7 +3,6 @@ ghost use Rattle.std.specs.Prelude.{ℕ, ◌+◌, ◌*◌, ◌≤◌, ◌<◌, l
 ghost use Rattle.products.specs.Blocks.{Rows};
 ghost use Rattle.tiles.specs.Tiling.{Grouped, RowPicked, Picked};
 
-use base::shorter;
 use picks::put_picks;
 
 // picks := those of a matrix of coefficients. The pick of group g, row i and bit 7 - s stands at place g·256 + i·8 + s.
@@ -21,12 +20,10 @@ pub(crate) fn fill_picks(
     requires rows { Rows rows width stride (length coeffs.now) }
     ensures { Picked rows stride coeffs.now width groups size picks.old picks.new }
 {
-    let mut i = 0;
-    while i < rows {
+    for i in 0..rows {
         let row = i * stride;
         let end = row + width;
         fill_row(picks, groups, size, i, &coeffs[row..end]);
-        i += 1;
     }
 }
 
@@ -36,13 +33,11 @@ fn fill_row(picks: &mut [u8], groups: usize, size: usize, i: usize, coeffs: &[u8
     requires i_bound { (i < 32) × ((g : ℕ) → g < groups → g * 256 + i * 8 + 8 ≤ length picks.old) }
     ensures { RowPicked i size coeffs.now groups picks.old picks.new }
 {
-    let mut g = 0;
-    while g < groups {
+    for g in 0..groups {
         let j = g * size;
-        let end = j + shorter(size, coeffs.len() - j);
+        let end = j + size.min(coeffs.len() - j);
         let at = g * 256 + i * 8;
         let stop = at + 8;
         put_picks(&mut picks[at..stop], &coeffs[j..end]);
-        g += 1;
     }
 }

@@ -3,15 +3,16 @@
 use mathlib.Core.Path.{◌≡◌, refl, sym, ap, ap₂, ◌∙◌, subst, subst⁻¹}
 use mathlib.Core.List.{List}
 use mathlib.Core.Logic.{⊎_elim}
-use Prim.Native.Nat.{ℕ, zero, suc, ◌+◌, ◌-◌, ◌*◌, ◌^◌, ◌≤◌, ◌<◌, min}
-use native.Mathlib.Nat.{suc-mul, zero-mul, mul-le-mul_right, not-suc-le-zero, le_of_suc-le-suc}
+use Prim.Native.Nat.{ℕ, zero, suc, ◌+◌, ◌-◌, ◌*◌, ◌^◌, ◌≤◌, ◌<◌}
+use native.Mathlib.Nat.{suc-mul, add-mul, zero-mul, mul-le-mul_right, not-suc-le-zero, le_of_suc-le-suc}
 use native.Mathlib.Omega.{arith}
 use borrow.Rule.Slice.PartMut.{put_mid, same_len_mid}
-use lib.ListN.{length, get_or, replicate, length-replicate, get_or-replicate, get_or-eq_default}
+use lib.ListN.{length, get_or, take, drop, replicate, length-replicate, get_or-replicate, get_or-eq_default}
+use lib.Pow.{pow_mono}
 use Rattle.base.specs.Seq.{cell}
 use Rattle.base.proofs.Cases.{lt-or, eq-or}
 use Rattle.base.specs.Parts.{part_of, put_block}
-use Rattle.base.proofs.Parts.{put-before, put_in, length-part_of, part_of-at, put_block-here, put_block-other, put_block-length}
+use Rattle.base.proofs.Parts.{put-before, put_in, row_ends, length-lent, length-part_of, part_of-at, put_block-here, put_block-other, put_block-length}
 use Rattle.base.proofs.Seq.{tabulate-ext, zeros-at}
 use Rattle.field.specs.Field.{IsByte, Bytes, add, mul, plus}
 use Rattle.field.specs.FiniteSum.{sum}
@@ -25,7 +26,7 @@ use Rattle.picks.proofs.Digits.{number-below, number-front}
 use Rattle.products.specs.Blocks.{Inside}
 use Rattle.products.proofs.Stretches.{stretch, length-stretch, stretch-at}
 use Rattle.tiles.specs.Tiling.{Grouped, columns, tile_at, Raised, Chosen, Tabled}
-use Rattle.tiles.proofs.Groups.{columns-most}
+use Rattle.tiles.proofs.Groups.{columns-size, columns-most}
 
 pub tile-byte : (b at : ℕ) (src places : List ℕ) → Bytes src → (k p : ℕ) → IsByte (tile_at b at src places k p)
 unfolding cell
@@ -69,7 +70,7 @@ pub raised-none : (t half : ℕ) (part old : List ℕ) → Raised t half 0 part 
 raised-none t half part old = record { same = refl; lower = λ n p hn hp. refl; upper = λ m p hm. absurd (omega arith) }
 
 -- a table of n entries of t bytes
-module _ (t n half : ℕ) (tile old : List ℕ) (room : length old ≡ n * t) (fits : half + half ≤ n) where
+module _ (t n half : ℕ) (tile old : List ℕ) (room : n * t ≤ length old) (fits : half + half ≤ n) where
   pub raised-more : (k : ℕ) (new last : List ℕ) → k < half → last ≡ put_block t (half + k) new (plus (part_of t k new) tile) → Raised t half k tile old new
       → Raised t half (k + 1) tile old last
   raised-more k new last hk e s = subst⁻¹ (Raised t half (k + 1) tile old) e more
@@ -78,7 +79,7 @@ module _ (t n half : ℕ) (tile old : List ℕ) (room : length old ≡ n * t) (f
       sum = plus (part_of t k new) tile
 
       inside : (m : ℕ) → m < n → m * t + t ≤ length new
-      inside m hm = omega (arith, s.same, suc-mul m t, mul-le-mul_right t hm)
+      inside m hm = row_ends n m t (length new) hm (omega (arith, s.same))
 
       within : length (part_of t k new) ≡ t
       within = length-part_of t k new (inside k (omega arith))
@@ -113,21 +114,24 @@ raised-same t half k tile part old new e r =
 
 -- ---- one column more, in front of those that the table has
 
--- no column yet: the first entry is cleared
-pub chosen_none : (t w : ℕ) (wt : w ≤ t) (x : ℕ → ℕ → ℕ) (entries n : ℕ) (start part : List ℕ) → n ≡ 0 → 0 < entries → length start ≡ entries * t
-    → part ≡ replicate (length (part_of t 0 start)) 0 → Chosen t w n x (put_block t 0 start part) (put_block t 0 start part)
-unfolding number
-chosen_none t w wt x entries n start part none some room e =
-    subst⁻¹ (λ (m : ℕ). Chosen t w m x (put_block t 0 start part) (put_block t 0 start part)) none
+-- no column yet: the first entry, k bytes from a on, is cleared
+pub chosen_none : (t w : ℕ) (wt : w ≤ t) (x : ℕ → ℕ → ℕ) (n a k : ℕ) (start part : List ℕ) → n ≡ 0 → a ≡ 0 → k ≡ t → t ≤ length start
+    → part ≡ replicate (length (take k (drop a start))) 0 → Chosen t w n x (put_mid a k start part) (put_mid a k start part)
+unfolding cell number
+chosen_none t w wt x n a k start part none front whole room e =
+    subst⁻¹ (λ (m : ℕ). Chosen t w m x (put_mid a k start part) (put_mid a k start part)) none
     (record {
       same = refl;
       entry = λ d p hd hp.
-          put_block-here t entries 0 start part some (omega arith) full p (omega arith) ∙ ap (λ (l : List ℕ). get_or l p 0) e ∙ zeros-at (length (part_of t 0 start)) p
-          ∙ sym (sum-zero _);
+          ap (λ (q : ℕ). get_or (put_mid a k start part) q 0) (omega (arith, zero-mul t)) ∙ put_in a k start part inside full p (omega arith)
+          ∙ ap (λ (l : List ℕ). get_or l p 0) e ∙ zeros-at (length (take k (drop a start))) p ∙ sym (sum-zero _);
     })
   where
-    full : length part ≡ t
-    full = ap length e ∙ length-replicate {A = ℕ} (length (part_of t 0 start)) 0 ∙ length-part_of t 0 start (omega (arith, mul-le-mul_right t some))
+    inside : a + k ≤ length start
+    inside = omega arith
+
+    full : length part ≡ k
+    full = ap length e ∙ length-replicate {A = ℕ} (length (take k (drop a start))) 0 ∙ length-lent a k start inside
 
 module _ (t w : ℕ) (wt : w ≤ t) (x : ℕ → ℕ → ℕ) (old : List ℕ) where
   -- the entry that digits name: where the first is 0 it is among the lower half, where it is 1 in the upper
@@ -182,9 +186,9 @@ module _ (t w : ℕ) (wt : w ≤ t) (x : ℕ → ℕ → ℕ) (old : List ℕ) w
 
 -- ---- the tables of all groups
 
--- byte p of entry n of group g, in the whole table and in the group's own
-in_group : (g n p : ℕ) → (g * 32 + n) * 64 + p ≡ g * 2048 + (n * 64 + p)
-in_group g n p = omega arith
+-- byte p of entry n of group g, in the whole table and in what is left from the group's own on
+in_group : (t g n p : ℕ) → (g * 32 + n) * t + p ≡ g * 32 * t + (n * t + p)
+in_group t g n p = omega (arith, add-mul (g * 32) n t)
 
 -- the places of a group name blocks too
 pub group-inside : (b j r src : ℕ) (places : List ℕ) → j + r ≤ length places → Inside b places src → Inside b (stretch j r places) src
@@ -192,79 +196,64 @@ group-inside b j r src places h f k hk =
     let lt : k < r = omega (arith, length-stretch j r places h) in
     subst⁻¹ (λ (q : ℕ). suc q * b ≤ src) (stretch-at j r places k lt) (f (j + k) (omega arith))
 
-module _ (b at w size : ℕ) (src places old : List ℕ) where
-  pub tabled-none : Tabled 64 b at w size src places 0 old old
+module _ (t b at w size : ℕ) (src places old : List ℕ) where
+  pub tabled-none : Tabled t b at w size src places 0 old old
   tabled-none = record { same = refl; entry = λ g d p hg. absurd (omega arith) }
 
-  -- the window of a group begins behind those of the groups before
-  pub tabled-more : {groups : ℕ} → Grouped (length places) groups size → (t r : ℕ) (new group : List ℕ) → t * 2048 + 2048 ≤ length new → w ≤ 64
-      → t * size + r ≤ length places → r ≡ columns size (length places) t → length (stretch (t * 2048) 2048 new) ≡ 2048
-      → Chosen 64 w (length (stretch (t * size) r places)) (tile_at b at src (stretch (t * size) r places)) (stretch (t * 2048) 2048 new) group
-      → Tabled 64 b at w size src places t old new → Tabled 64 b at w size src places (t + 1) old (put_mid (t * 2048) (t * 2048 + 2048 - t * 2048) new group)
+  -- the table of a group begins, at a, behind those of the groups before, and has room up to the end
+  pub tabled-more : {groups : ℕ} → Grouped (length places) groups size → (h r a n : ℕ) (new group : List ℕ) → a ≡ h * 32 * t → w ≤ t → length new ≡ n → (h * 32 + 2 ^ size) * t ≤ n
+      → h * size + r ≤ length places → r ≡ columns size (length places) h
+      → Chosen t w (length (stretch (h * size) r places)) (tile_at b at src (stretch (h * size) r places)) (take (n - a) (drop a new)) group
+      → Tabled t b at w size src places h old new → Tabled t b at w size src places (h + 1) old (put_mid a (n - a) new group)
   unfolding cell
-  tabled-more gr t r new group room hw fits er lent m s =
+  tabled-more gr h r first n new group begin hw long room fits er m s =
       record {
-        same = same_len_mid (t * 2048) span new group m.same ∙ s.same;
+        same = same_len_mid first span new group m.same ∙ s.same;
         entry = λ g d p hg hd hp.
             ⊎_elim
-            (λ (e : g ≡ t). ap (λ (k : ℕ). cell 64 last (k * 32 + number (columns size (length places) k) d) p) e ∙ here d p hd hp
+            (λ (e : g ≡ h). ap (λ (k : ℕ). cell t last (k * 32 + number (columns size (length places) k) d) p) e ∙ here d p hd hp
             ∙ ap (λ (k : ℕ). sum (columns size (length places) k) (λ i. mul (d i) (tile_at b at src places (k * size + i) p))) (sym e))
             (λ ne. before g d p (omega arith) hd hp ∙ s.entry g d p (omega arith) hd hp)
-            (eq-or g t);
+            (eq-or g h);
       }
     where
+      begins : first + 2 ^ size * t ≤ n
+      begins = omega (arith, begin, room, add-mul (h * 32) (2 ^ size) t)
+
       span : ℕ
-      span = t * 2048 + 2048 - t * 2048
+      span = n - first
 
       last : List ℕ
-      last = put_mid (t * 2048) span new group
+      last = put_mid first span new group
 
-      inside : t * 2048 + span ≤ length new
-      inside = omega arith
+      inside : first + span ≤ length new
+      inside = omega (arith, begins)
 
       full : length group ≡ span
-      full = m.same ∙ lent ∙ omega arith
+      full = m.same ∙ length-lent first span new inside
 
-      small : (g : ℕ) (d : ℕ → ℕ) → ((k : ℕ) → d k < 2) → number (columns size (length places) g) d < 32
-      small g d hd = number-below (columns size (length places) g) 5 d hd (columns-most gr g)
+      -- an entry that digits name ends within a group's table
+      small : (g k m : ℕ) (d : ℕ → ℕ) (p : ℕ) → ((k : ℕ) → d k < 2) → p < w → columns size (length places) g ≤ k → k ≤ m → number (columns size (length places) g) d * t + p < 2 ^ m * t
+      small g k m d p hd hp hc hk =
+          let lt : suc (number (columns size (length places) g) d) ≤ 2 ^ m = omega (arith, number-below (columns size (length places) g) k d hd hc, pow_mono hk) in
+          omega (arith, suc-mul (number (columns size (length places) g) d) t, mul-le-mul_right t lt)
 
-      before : (g : ℕ) (d : ℕ → ℕ) (p : ℕ) → g < t → ((k : ℕ) → d k < 2) → p < w
-          → get_or last ((g * 32 + number (columns size (length places) g) d) * 64 + p) 0 ≡ get_or new ((g * 32 + number (columns size (length places) g) d) * 64 + p) 0
-      before g d p hg hd hp = put-before (t * 2048) span new group inside full _ (omega (arith, small g d hd))
+      before : (g : ℕ) (d : ℕ → ℕ) (p : ℕ) → g < h → ((k : ℕ) → d k < 2) → p < w
+          → get_or last ((g * 32 + number (columns size (length places) g) d) * t + p) 0 ≡ get_or new ((g * 32 + number (columns size (length places) g) d) * t + p) 0
+      before g d p hg hd hp =
+          let next : suc g * 32 ≤ h * 32 = mul-le-mul_right 32 hg in
+          let whole : (suc g * 32) * t ≡ g * 32 * t + 32 * t = ap (λ (k : ℕ). k * t) (suc-mul g 32 ∙ omega arith) ∙ add-mul (g * 32) 32 t in
+          put-before first span new group inside full _
+          (omega (arith, in_group t g (number (columns size (length places) g) d) p, small g 5 5 d p hd hp (columns-most gr g) (omega arith), mul-le-mul_right t next, whole, begin))
 
-      own : Chosen 64 w (columns size (length places) t) (tile_at b at src (stretch (t * size) r places)) (stretch (t * 2048) 2048 new) group
-      own = subst (λ (n : ℕ). Chosen 64 w n (tile_at b at src (stretch (t * size) r places)) (stretch (t * 2048) 2048 new) group) (length-stretch (t * size) r places fits ∙ er) m
+      own : Chosen t w (columns size (length places) h) (tile_at b at src (stretch (h * size) r places)) (take span (drop first new)) group
+      own = subst (λ (n : ℕ). Chosen t w n (tile_at b at src (stretch (h * size) r places)) (take span (drop first new)) group) (length-stretch (h * size) r places fits ∙ er) m
 
       here : (d : ℕ → ℕ) (p : ℕ) → ((k : ℕ) → d k < 2) → p < w
-          → get_or last ((t * 32 + number (columns size (length places) t) d) * 64 + p) 0
-          ≡ sum (columns size (length places) t) (λ i. mul (d i) (tile_at b at src places (t * size + i) p))
+          → get_or last ((h * 32 + number (columns size (length places) h) d) * t + p) 0
+          ≡ sum (columns size (length places) h) (λ i. mul (d i) (tile_at b at src places (h * size + i) p))
       here d p hd hp =
-          ap (λ (q : ℕ). get_or last q 0) (in_group t (number (columns size (length places) t) d) p)
-          ∙ put_in (t * 2048) span new group inside full (number (columns size (length places) t) d * 64 + p) (omega (arith, small t d hd))
+          ap (λ (q : ℕ). get_or last q 0) (in_group t h (number (columns size (length places) h) d) p ∙ ap (λ (q : ℕ). q + (number (columns size (length places) h) d * t + p)) (sym begin))
+          ∙ put_in first span new group inside full (number (columns size (length places) h) d * t + p) (omega (arith, small h size size d p hd hp (columns-size size (length places) h) (omega arith), begins))
           ∙ own.entry d p hd hp
-          ∙ sum-ext (columns size (length places) t) _ _ (λ i hi. ap (λ (q : ℕ). mul (d i) (cell b src q (at + p))) (stretch-at (t * size) r places i (omega arith)))
-
--- or the table of one group
-pub tabled-one : (t b at w : ℕ) (src places old new : List ℕ) → Chosen t w (length places) (tile_at b at src places) old new → Tabled t b at w (length places) src places 1 old new
-unfolding columns
-tabled-one t b at w src places old new s =
-    record {
-      same = s.same;
-      entry = λ g d p hg hd hp.
-          let none : g ≡ 0 = omega arith in
-          subst⁻¹ (λ (k : ℕ). Entry k d p) none (first d p hd hp);
-    }
-  where
-    Entry : ℕ → (ℕ → ℕ) → ℕ → Type 0
-    Entry g d p =
-        cell t new (g * 32 + number (min (length places) (length places - g * length places)) d) p
-        ≡ sum (min (length places) (length places - g * length places)) (λ k. mul (d k) (tile_at b at src places (g * length places + k) p))
-
-    all : length places ≡ min (length places) (length places - 0 * length places)
-    all = omega (arith, zero-mul (length places))
-
-    first : (d : ℕ → ℕ) (p : ℕ) → ((k : ℕ) → d k < 2) → p < w → Entry 0 d p
-    first d p hd hp =
-        subst (λ (m : ℕ). cell t new (0 * 32 + number m d) p ≡ sum m (λ k. mul (d k) (tile_at b at src places (0 * length places + k) p))) all
-        (ap (λ (n : ℕ). cell t new n p) (omega arith) ∙ s.entry d p hd hp
-        ∙ sum-ext (length places) _ _ (λ k hk. ap (λ (i : ℕ). mul (d k) (tile_at b at src places i p)) (omega (arith, zero-mul (length places)))))
+          ∙ sum-ext (columns size (length places) h) _ _ (λ i hi. ap (λ (q : ℕ). mul (d i) (cell b src q (at + p))) (stretch-at (h * size) r places i (omega arith)))

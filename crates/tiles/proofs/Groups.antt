@@ -1,25 +1,27 @@
 -- Columns in groups: a sum over all columns is taken group by group. Assumes nothing.
-use mathlib.Core.Path.{◌≡◌, sym, ap, ap₂, ◌∙◌}
-use mathlib.Core.Logic.{⊎_elim}
+use mathlib.Core.Path.{◌≡◌, sym, ap, ap₂, ◌∙◌, subst⁻¹}
 use Prim.Native.Nat.{ℕ, zero, suc, ◌+◌, ◌-◌, ◌*◌, ◌≤◌, ◌<◌, min}
 use native.Mathlib.Nat.{suc-mul, mul-le-mul_right}
 use native.Mathlib.Omega.{arith}
 use lib.Dec.{leb, leb→le}
-use Rattle.base.proofs.Cases.{lt-or}
 use Rattle.base.proofs.Test.{below}
 use Rattle.field.specs.Field.{add}
 use Rattle.field.specs.FiniteSum.{sum}
 use Rattle.field.proofs.FiniteSum.{sum-zero, sum-last, sum-split}
 use Rattle.tiles.specs.Tiling.{Grouped, groups_of, size_of, columns}
 
+pub columns-size : (size n g : ℕ) → columns size n g ≤ size
+unfolding columns
+columns-size size n g = omega arith
+
 pub columns-most : {n groups size : ℕ} → Grouped n groups size → (g : ℕ) → columns size n g ≤ 5
 unfolding columns
 columns-most {n} {groups} {size} r g = omega (arith, r.few)
 
 -- as the code finds how many columns a group has
-pub columns-are : (size n g r : ℕ) → r ≤ size → r ≤ n - g * size → (r < size → n - g * size ≤ r) → r ≡ columns size n g
+pub columns-are : (size n g r : ℕ) → r ≡ min size (n - g * size) → r ≡ columns size n g
 unfolding columns
-columns-are size n g r hx hy h = ⊎_elim (λ (lt : r < size). omega (arith, h lt)) (λ (le : size ≤ r). omega arith) (lt-or r size)
+columns-are size n g r e = e
 
 -- a group begins where the columns before it end
 next-group : (size n g : ℕ) → g * size ≤ n → min n (suc g * size) ≡ g * size + columns size n g
@@ -45,10 +47,10 @@ grouped {n} {groups} {size} r e f h = grouped-first size n groups e f r.begins h
 
 -- at most 32 columns make such groups, at most seven
 module _ (n : ℕ) (n32 : n ≤ 32) where
-  pub few-groups : groups_of n ≤ 7
+  few-groups : groups_of n ≤ 7
   few-groups = omega arith
 
-  pub grouping : Grouped n (groups_of n) (size_of n)
+  grouping : Grouped n (groups_of n) (size_of n)
   grouping =
       record {
         few = few;
@@ -61,6 +63,13 @@ module _ (n : ℕ) (n32 : n ≤ 32) where
 
       last : (g : ℕ) → g < groups_of n → g ≤ groups_of n - 1
       last g hg = omega arith
+
+-- at most 32 columns, in groups as the code counts them
+pub all-grouped : (n groups size : ℕ) → n ≤ 32 → groups ≡ groups_of n → size ≡ size_of n → Grouped n groups size
+all-grouped n groups size le e h = subst⁻¹ (λ (g : ℕ). Grouped n g size) e (subst⁻¹ (Grouped n (groups_of n)) h (grouping n le))
+
+pub seven : (n groups : ℕ) → n ≤ 32 → groups ≡ groups_of n → groups ≤ 7
+seven n groups le e = omega (arith, e, few-groups n le)
 
 -- or one group, of all
 pub one-group : (n : ℕ) → n ≤ 5 → Grouped n 1 n

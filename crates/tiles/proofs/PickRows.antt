@@ -2,9 +2,8 @@
 use mathlib.Core.Path.{◌≡◌, refl, sym, ap, ◌∙◌}
 use mathlib.Core.List.{List}
 use mathlib.Core.Logic.{⊎_elim}
-use Prim.Native.Nat.{ℕ, ◌+◌, ◌-◌, ◌*◌, ◌≤◌, ◌<◌, min}
+use Prim.Native.Nat.{ℕ, ◌+◌, ◌-◌, ◌*◌, ◌≤◌, ◌<◌}
 use borrow.Rule.Slice.PartMut.{put_mid, same_len_mid}
-use native.Mathlib.Nat.{zero-mul}
 use native.Mathlib.Omega.{arith}
 use lib.ListN.{length, get_or}
 use Rattle.base.specs.Seq.{tabulate, cell}
@@ -23,7 +22,7 @@ part-picks a n coeffs s h =
     ap (λ (m : ℕ). number m (λ k. bit s (get_or (stretch a n coeffs) k 0))) (length-stretch a n coeffs h)
     ∙ number-ext n _ _ (λ k hk. ap (bit s) (stretch-at a n coeffs k hk))
 
--- of group g, and of a whole row as one group
+-- of group g
 module _ (size : ℕ) (coeffs : List ℕ) (g n : ℕ) (old bytes : List ℕ) (size8 : length old ≡ 8) (few : n ≤ 5) (ends : g * size + n ≤ length coeffs)
     (count : n ≡ columns size (length coeffs) g) (p : Picks (stretch (g * size) n coeffs) old bytes) where
   group-bytes : bytes ≡ tabulate 8 (pick_of (stretch (g * size) n coeffs))
@@ -36,21 +35,6 @@ module _ (size : ℕ) (coeffs : List ℕ) (g n : ℕ) (old bytes : List ℕ) (si
   group-picks s hs =
       ap (λ (l : List ℕ). get_or l s 0) group-bytes ∙ get_d_tabulate 8 _ s hs ∙ part-picks (g * size) n coeffs s ends
       ∙ ap (λ (m : ℕ). number m (λ k. bit s (get_or coeffs (g * size + k) 0))) count
-
-module _ (size : ℕ) (coeffs old bytes : List ℕ) (size8 : length old ≡ 8) (few : size ≤ 5) (all : length coeffs ≡ size) (p : Picks coeffs old bytes) where
-  whole-bytes : bytes ≡ tabulate 8 (pick_of coeffs)
-  whole-bytes = p.written size8 (omega arith)
-
-  pub whole-eight : length bytes ≡ 8
-  whole-eight = ap length whole-bytes ∙ length-tabulate 8 _
-
-  pub whole-picks : (s : ℕ) → s < 8 → get_or bytes s 0 ≡ number (columns size (length coeffs) 0) (λ k. bit s (get_or coeffs (0 * size + k) 0))
-  unfolding pick_of columns
-  whole-picks s hs =
-      let count : length coeffs ≡ min size (length coeffs - 0 * size) = omega (arith, zero-mul size) in
-      ap (λ (l : List ℕ). get_or l s 0) whole-bytes ∙ get_d_tabulate 8 _ s hs
-      ∙ number-ext (length coeffs) _ _ (λ k hk. let e : k ≡ 0 * size + k = omega (arith, zero-mul size) in ap (λ (q : ℕ). bit s (get_or coeffs q 0)) e)
-      ∙ ap (λ (m : ℕ). number m (λ k. bit s (get_or coeffs (0 * size + k) 0))) count
 
 -- ---- a row of picks
 

@@ -12,10 +12,8 @@ use field::double;
 pub fn double_tile(x: &mut [u8])
     ensures { x.new ≡ multiple 2 x.old }
 {
-    let mut p = 0;
-    while p < x.len() {
-        x[p] = double(x[p]);
-        p += 1;
+    for byte in x.iter_mut() {
+        *byte = double(*byte);
     }
 }
 

@@ -1,10 +1,7 @@
 -- After g turns the entries of the first g groups are summed, or those of all. Assumes nothing.
-use Prim.Native.Nat.{◌-◌, ◌≤◌, min}
+use Prim.Native.Nat.{min}
 use Rattle.tiles.specs.Tiling.{Gathered}
 use Rattle.tiled_products.proofs.rows.add_picked.Given as goal
 
 abbrev pub invariant-loop-g : goal.invariant-loop-g
-invariant-loop-g l = (l.g ≤ 7) × Gathered 64 (min l.g l.groups) l.table l.picks l.q l.initial.sum l.sum
-
-abbrev pub decreases-loop-g : goal.decreases-loop-g
-decreases-loop-g l = 7 - l.g
+invariant-loop-g g l = Gathered g.row.TILE (min l.g l.groups) l.table l.picks l.q l.initial.sum l.sum
