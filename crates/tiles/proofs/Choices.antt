@@ -33,7 +33,7 @@ unfolding cell
 tile-byte b at src places bytes k p = bytes (get_or places k 0 * b + (at + p))
 
 -- a copy of ys with zeros behind it
-pub copy_at : (n : ℕ) (ys copy : List ℕ) → length ys ≤ n → copy ≡ over (replicate n 0) ys → (p : ℕ) → get_or copy p 0 ≡ get_or ys p 0
+copy_at : (n : ℕ) (ys copy : List ℕ) → length ys ≤ n → copy ≡ over (replicate n 0) ys → (p : ℕ) → get_or copy p 0 ≡ get_or ys p 0
 copy_at n ys copy h e p =
     ap (λ (l : List ℕ). get_or l p 0) e
     ∙ ⊎_elim (λ (lt : p < length ys). over-at (replicate n 0) ys p (omega (arith, size)) lt)

@@ -70,10 +70,3 @@ all-grouped n groups size le e h = subst⁻¹ (λ (g : ℕ). Grouped n g size) e
 
 pub seven : (n groups : ℕ) → n ≤ 32 → groups ≡ groups_of n → groups ≤ 7
 seven n groups le e = omega (arith, e, few-groups n le)
-
--- or one group, of all
-pub one-group : (n : ℕ) → n ≤ 5 → Grouped n 1 n
-one-group n h = record { few = h; begins = λ g hg. omega (arith, mul-le-mul_right n (first g hg)); all = omega arith }
-  where
-    first : (g : ℕ) → g < 1 → g ≤ 0
-    first g hg = omega arith
