@@ -1,14 +1,14 @@
-// The elements of the field as a type: sum, product, inverse and power (document 01, "The field"). Products and inverses go by the tables.
+// The elements of the field as a type: sum, product, inverse and power (document 01, "The field"). Products and inverses go by the exponents of 02.
 #![tactic(auto)]
 
-ghost use Rattle.std.specs.Prelude.{◌≡◌, ◌<◌};
+ghost use Rattle.std.specs.Prelude.{◌≡◌};
 ghost use Rattle.field.specs.Field.{add, mul, pow, Inverse};
 
-use base::wide;
-use tables::{logs, powers};
+use std::ops::{Add, Mul};
+use tables::Exponent;
 
 // A field element. Document 01 calls it a field value.
-#[derive(Clone, Copy)]
+#[derive(Clone, Copy, PartialEq, Eq)]
 pub struct Elem(pub u8);
 
 impl Elem {
@@ -18,33 +18,14 @@ impl Elem {
     // How many elements are not zero.
     pub const ORDER: usize = 255;
 
-    pub fn add(self, other: Elem) -> Elem
-        ensures { result.0 ≡ add self.0 other.0 }
-    {
-        Elem(self.0 ^ other.0)
-    }
-
-    // Zero times anything is zero. Two other factors are powers of 02, and their exponents add up, modulo 255.
-    pub fn mul(self, other: Elem) -> Elem
-        ensures { result.0 ≡ mul self.0 other.0 }
-    {
-        if self.0 == 0 {
-            return self;
-        }
-        if other.0 == 0 {
-            return other;
-        }
-        Elem(exp((log(self.0) + log(other.0)) % Elem::ORDER))
-    }
-
-    // The inverse of zero is zero. Any other element is a power of 02, and the exponent of its inverse is 255 less its own.
+    // The inverse of zero is zero. Any other element is a power of 02, and so is its inverse.
     pub fn inverse(self) -> Elem
         ensures { Inverse self.0 result.0 }
     {
-        if self.0 == 0 {
+        if self == Elem::ZERO {
             return Elem::ZERO;
         }
-        Elem(exp((Elem::ORDER - log(self.0)) % Elem::ORDER))
+        Elem((-Exponent::of(self.0)).power())
     }
 
     // By squaring: the exponent is halved until it is 0.
@@ -55,28 +36,37 @@ impl Elem {
             return Elem::ONE;
         }
         let half = self.pow(e / 2);
-        let square = half.mul(half);
+        let square = half * half;
         if e % 2 == 0 {
             return square;
         }
-        square.mul(self)
+        square * self
     }
 }
 
-// 02 to the power k.
-fn exp(k: usize) -> u8
-    requires { k < 255 }
-    ensures { result ≡ pow 2 k }
-{
-    let table = powers();
-    table[k]
+impl Add for Elem {
+    type Output = Elem;
+
+    ghost add_gives = { λ a b sum. sum.0 ≡ add a.0 b.0 };
+
+    fn add(self, other: Elem) -> Elem {
+        Elem(self.0 ^ other.0)
+    }
 }
 
-// The exponent of a as a power of 02.
-fn log(a: u8) -> usize
-    requires { a ≡ 0 → ⊥ }
-    ensures { (result < 255) × (pow 2 result ≡ a) }
-{
-    let table = logs();
-    wide(table[wide(a)])
+// Zero times anything is zero. Any other element is a power of 02.
+impl Mul for Elem {
+    type Output = Elem;
+
+    ghost mul_gives = { λ a b product. product.0 ≡ mul a.0 b.0 };
+
+    fn mul(self, other: Elem) -> Elem {
+        if self == Elem::ZERO {
+            return self;
+        }
+        if other == Elem::ZERO {
+            return other;
+        }
+        Elem((Exponent::of(self.0) + Exponent::of(other.0)).power())
+    }
 }

@@ -2,6 +2,6 @@
 use Rattle.field.proofs.Exponents.{logs, log-table}
 use Rattle.tables.proofs.logs.Goals as goal
 
-pub returns : goal.returns
+pub returns-clause-log_table : goal.returns-clause-log_table
 unfolding logs
-returns c = log-table
+returns-clause-log_table c = log-table

@@ -1,7 +1,7 @@
 -- The code's exclusive or is the definition itself. Assumes nothing.
 use mathlib.Core.Path.{refl}
 use Rattle.field.specs.Field.{add}
-use Rattle.elements.proofs.Elem.add.Goals as goal
+use Rattle.elements.proofs.ElemAdd.add.Goals as goal
 
 pub returns : goal.returns
 unfolding add

@@ -1,6 +1,6 @@
 -- Entry k of the table is 02 to the power k, by the table's rule. Assumes nothing.
 use Rattle.field.proofs.Exponents.{power_at}
-use Rattle.elements.proofs.exp.Goals as goal
+use Rattle.tables.proofs.exponent.Exponent.power.Goals as goal
 
 pub returns : goal.returns
-returns c = power_at c.powers-table.result c.powers-table.ensures c.args.k c.requires
+returns c = power_at c.powers.result.now c.powers.ensures c.args.self.value c.args.self.small
