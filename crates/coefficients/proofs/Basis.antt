@@ -16,11 +16,11 @@ use Rattle.base.proofs.Seq.{cell-lt}
 use Rattle.field.specs.Field.{IsByte, add, mul, pow}
 use Rattle.field.proofs.Addition.{add_assoc, add-self, add-zero-left}
 use Rattle.field.proofs.Multiplication.{mul-byte, mul_comm, mul_assoc, mul-add-left, mul-one-left, mul-one-right}
-use Rattle.field.proofs.Exponents.{pow-byte, pow-add, mul-nonzero, quotient-unique}
+use Rattle.field.proofs.Exponents.{pow-byte, mul-nonzero, quotient-unique}
 use Rattle.interpolation.specs.Polynomial.{Points}
 use Rattle.interpolation.specs.Lagrange.{coefs, apart}
 use Rattle.interpolation.proofs.Lagrange.{apart-byte, apart-nonzero, coefs-first, coefs-next, whole-first, whole-next}
-use Rattle.coefficients.specs.Working.{product_at, basis, Widened, Lowest, BasisRows, BasisPut}
+use Rattle.coefficients.specs.Working.{product_at, basis, Widened, Lowest, BasisPut}
 
 -- ---- multiplying by z - x, from the top down
 
@@ -133,10 +133,10 @@ module _ (points : List ℕ) (tell : Points points) (i : ℕ) (hi : i < length p
       ∙ mul-one-right _ (mul-byte (quotient j) (pow 2 scale)) ∙ sym (basis-is j)
 
   -- the lowest, by exponents
-  pub lead-first : (first r s : ℕ) → pow 2 first ≡ product_at points (length points) 0 → pow 2 r ≡ pow 2 (first + scale) → pow 2 s ≡ pow 2 (r + back)
+  pub lead-first : (first r s : ℕ) → pow 2 first ≡ product_at points (length points) 0 → pow 2 r ≡ mul (pow 2 first) (pow 2 scale) → pow 2 s ≡ mul (pow 2 r) (pow 2 back)
       → pow 2 s ≡ basis points i 0
   lead-first first r s hf hr hs =
-      hs ∙ pow-add 2 r back ∙ ap (λ (k : ℕ). mul k (pow 2 back)) (hr ∙ pow-add 2 first scale ∙ ap (λ (k : ℕ). mul k (pow 2 scale)) (hf ∙ first-is)) ∙ divided 0
+      hs ∙ ap (λ (k : ℕ). mul k (pow 2 back)) (hr ∙ ap (λ (k : ℕ). mul k (pow 2 scale)) (hf ∙ first-is)) ∙ divided 0
 
   -- and each from the one below
   pub lead-next : (j lead above : ℕ) → lead ≡ basis points i j → above ≡ product_at points (length points) (suc j)
@@ -193,11 +193,3 @@ climbed-on points i s t old mid new c d = record { same = d.same ∙ c.same; don
 
 pub climbed-all : (count : ℕ) (points : List ℕ) (i t : ℕ) (old new : List ℕ) → count ≤ t → Climbed points i t old new → BasisPut count points i old new
 climbed-all count points i t old new h c = record { put = λ j hj. c.done j (omega arith); kept = c.kept }
-
--- ---- column by column
-
-pub basis-more : (count : ℕ) (points : List ℕ) (i : ℕ) (old new : List ℕ) → i < length points → BasisPut count points i old new
-    → BasisRows count points i old → BasisRows count points (i + 1) new
-basis-more count points i old new hi put before k j hk hj =
-    ⊎_elim (λ (p : k ≡ i). ap (cell (length points) new j) p ∙ put.put j hj ∙ ap (λ (l : ℕ). basis points l j) (sym p))
-    (λ ne. put.kept j k (omega arith) ne ∙ before k j (omega (arith, ne)) hj) (eq-or k i)

@@ -1,28 +1,30 @@
 -- Lagrange's formula as the code finds it: products by the sums of exponents, quotients by their differences, and the rows that come of it.
 -- Assumes nothing.
-use mathlib.Core.Path.{◌≡◌, sym, ap, ap₂, ◌∙◌, subst}
+use mathlib.Core.Bool.{Bool, true, false}
+use mathlib.Core.Path.{◌≡◌, refl, sym, ap, ap₂, ◌∙◌}
 use mathlib.Core.List.{List}
 use mathlib.Core.Logic.{⊎_elim}
-use Prim.Native.Nat.{ℕ, suc, ◌+◌, ◌*◌, ◌%◌, ◌≤◌, ◌<◌}
-use native.Mathlib.Nat.{zero-lt-suc, mod-lt, mul-le-mul}
+use Prim.Native.Nat.{ℕ, suc, ◌+◌, ◌*◌, ◌≤◌, ◌<◌}
+use native.Mathlib.Nat.{mul-le-mul}
 use native.Mathlib.Numerals.{add-one}
 use native.Mathlib.Omega.{arith}
 use borrow.Author.Tests.{eq-eqb, ne_eqb}
-use lib.ListN.{length, get_or, set, length-set}
-use lib.Seq.{get_or-set_same, get_or-set_other}
+use lib.Dec.{eqb}
+use Rattle.std.specs.Int.{from_bool}
+use lib.ListN.{length, get_or}
 use Rattle.base.specs.Seq.{one, cell}
 use Rattle.base.proofs.Cases.{eq-or}
 use Rattle.base.proofs.Seq.{tabulate-ext, cell-blocks}
 use Rattle.field.specs.Field.{IsByte, add, mul, pow}
 use Rattle.field.proofs.Addition.{add-byte, add-zero-eq}
 use Rattle.field.proofs.Multiplication.{mul-byte, mul_comm, mul_assoc, mul-zero-left, mul-one-right}
-use Rattle.field.proofs.Exponents.{pow-byte, pow-add, pow-pow, pow-mod, mul-cancel, inverse-power, quotient-unique}
+use Rattle.field.proofs.Exponents.{pow-byte, pow-add, pow-pow, mul-cancel, inverse-power, quotient-unique}
 use Rattle.field.proofs.FiniteSum.{sum-ext}
 use Rattle.interpolation.specs.Polynomial.{Points}
 use Rattle.interpolation.specs.Lagrange.{product, factor, apart, basis_value}
 use Rattle.interpolation.proofs.Lagrange.{apart-byte, apart-elsewhere, apart-nonzero, apart-whole, lagrange}
 use Rattle.points.specs.Lists.{Among}
-use Rattle.coefficients.specs.Working.{same, unit_row, basis_values, basis_value_rows, Weighed, Weighable, Carries, remaining}
+use Rattle.coefficients.specs.Working.{same, unit_row, basis_values, basis_value_rows, Weighable, Carries, remaining}
 use Rattle.coefficients.proofs.Rows.{tabulated}
 
 -- ---- products by the sums of exponents
@@ -47,35 +49,10 @@ apart_more p n d j f h k =
     pow-add 2 n d ∙ ap₂ mul h k ∙ mul_assoc p (product j f) (f j) ∙ ap (λ (i : ℕ). mul p (product i f)) (sym (add-one j))
 
 -- all
-pub apart-all : (e : ℕ) (at : List ℕ) (x n j : ℕ) → j ≤ length at → length at ≤ j
-    → pow 2 n ≡ mul (pow x (suc e)) (product j (λ k. factor x x (get_or at k 0))) → (n % 255 < 255) × (pow 2 (n % 255) ≡ apart e at x x)
+pub apart-all : (e : ℕ) (at : List ℕ) (x n j : ℕ) → j ≡ length at → pow 2 n ≡ mul (pow x (suc e)) (product j (λ k. factor x x (get_or at k 0)))
+    → pow 2 n ≡ apart e at x x
 unfolding apart
-apart-all e at x n j most done h =
-    let whole : j ≡ length at = omega arith in
-    (mod-lt n (zero-lt-suc 254), pow-mod n ∙ h ∙ ap (λ (i : ℕ). mul (pow x (suc e)) (product i (λ k. factor x x (get_or at k 0)))) whole)
-
--- ---- the weights, one after the other
-
-pub weighed-none : (e : ℕ) (at weights : List ℕ) → length at ≤ length weights → Weighed e at 0 weights
-weighed-none e at weights room = record { room = room; small = λ o h. absurd (omega arith); power = λ o h. absurd (omega arith) }
-
-pub weighed-more : (e : ℕ) (at : List ℕ) (n : ℕ) (weights : List ℕ) (w : ℕ) → n < length weights → w < 255
-    → pow 2 w ≡ apart e at (get_or at n 0) (get_or at n 0) → Weighed e at n weights → Weighed e at (n + 1) (set weights n w)
-weighed-more e at n weights w room small power before =
-    record {
-      room = simp length-set before.room;
-      small = λ o ho.
-          ⊎_elim (λ (q : o ≡ n). subst (λ (k : ℕ). k < 255) (sym (here o q)) small)
-          (λ ne. subst (λ (k : ℕ). k < 255) (sym (get_or-set_other weights n o w 0 ne)) (before.small o (omega (arith, ne)))) (eq-or o n);
-      power = λ o ho.
-          ⊎_elim
-          (λ (q : o ≡ n).
-          ap (pow 2) (here o q) ∙ power ∙ ap (λ (k : ℕ). apart e at (get_or at k 0) (get_or at k 0)) (sym q))
-          (λ ne. ap (pow 2) (get_or-set_other weights n o w 0 ne) ∙ before.power o (omega (arith, ne))) (eq-or o n);
-    }
-  where
-    here : (o : ℕ) → o ≡ n → get_or (set weights n w) o 0 ≡ w
-    here o q = ap (λ (k : ℕ). get_or (set weights n w) k 0) q ∙ get_or-set_same weights n w 0 room
+apart-all e at x n j whole h = h ∙ ap (λ (i : ℕ). mul (pow x (suc e)) (product i (λ k. factor x x (get_or at k 0)))) whole
 
 -- ---- a target that is none of the points
 
@@ -87,15 +64,15 @@ module _ (e : ℕ) (at : List ℕ) (target : ℕ) (can : Weighable e at) (byte :
   gap-nonzero z = out (o, ho, sym (add-zero-eq target x z))
 
   pub gain-found : (weight gap parts back whole g : ℕ) → pow 2 weight ≡ apart e at (get_or at o 0) (get_or at o 0)
-      → pow 2 gap ≡ add target (get_or at o 0) → pow 2 parts ≡ pow 2 (weight + gap) → mul (pow 2 parts) (pow 2 back) ≡ 1
-      → pow 2 whole ≡ apart e at target target → pow 2 g ≡ pow 2 (whole + back)
+      → pow 2 gap ≡ add target (get_or at o 0) → pow 2 parts ≡ mul (pow 2 weight) (pow 2 gap) → mul (pow 2 parts) (pow 2 back) ≡ 1
+      → pow 2 whole ≡ apart e at target target → pow 2 g ≡ mul (pow 2 whole) (pow 2 back)
       → pow 2 g ≡ basis_value e at (get_or at o 0) target
   unfolding basis_value
   gain-found weight gap parts back whole g hw hg hp hb hz h =
       quotient-unique W (pow 2 g) N (apart-byte e at x x)
       (apart-nonzero e at x can.tell.bytes (can.tell.bytes o) (can.tell.nonzero o ho)) (pow-byte 2 g)
       (mul-cancel D (mul (pow 2 g) W) N (add-byte target x byte (can.tell.bytes o)) gap-nonzero (mul-byte _ _) (apart-byte e at x target)
-      (ap (λ (k : ℕ). mul D (mul k W)) (h ∙ pow-add 2 whole back) ∙ mul_comm D _ ∙ mul_assoc _ W D
+      (ap (λ (k : ℕ). mul D (mul k W)) h ∙ mul_comm D _ ∙ mul_assoc _ W D
       ∙ ap (mul (mul (pow 2 whole) (pow 2 back))) (sym product_is) ∙ mul_assoc (pow 2 whole) (pow 2 back) (pow 2 parts)
       ∙ ap (mul (pow 2 whole)) (mul_comm _ _ ∙ hb) ∙ mul-one-right _ (pow-byte 2 whole) ∙ hz ∙ apart-whole e at target o can.tell ho (λ i hi q. out (i, hi, q)) ∙ mul_comm N D))
     where
@@ -109,9 +86,14 @@ module _ (e : ℕ) (at : List ℕ) (target : ℕ) (can : Weighable e at) (byte :
       D = add target x
 
       product_is : pow 2 parts ≡ mul W D
-      product_is = hp ∙ pow-add 2 weight gap ∙ ap₂ mul hw hg
+      product_is = hp ∙ ap₂ mul hw hg
 
 -- ---- a target that is one
+
+-- as the code finds it
+pub same-told : (x y : ℕ) → from_bool (eqb x y) ≡ same x y
+unfolding same
+same-told x y = elim (eqb x y) as (λ (b : Bool). from_bool b ≡ one b) [ true ↦ refl | false ↦ refl ]
 
 pub same-equal : (x y : ℕ) → x ≡ y → same x y ≡ 1
 unfolding same

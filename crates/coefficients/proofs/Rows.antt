@@ -2,7 +2,7 @@
 use mathlib.Core.Path.{◌≡◌, refl, sym, ap, ap₂, ◌∙◌}
 use mathlib.Core.Bool.{Bool, true, not}
 use mathlib.Core.List.{List}
-use Prim.Native.Nat.{ℕ, zero, suc, ◌+◌, ◌*◌, ◌≤◌, ◌<◌}
+use Prim.Native.Nat.{ℕ, zero, suc, ◌*◌, ◌≤◌, ◌<◌}
 use native.Mathlib.Nat.{zero-lt-suc}
 use native.Mathlib.Omega.{arith}
 use lib.Dec.{eqb}
@@ -15,7 +15,7 @@ use Rattle.base.proofs.Parts.{blocked-all}
 use Rattle.base.proofs.Decisions.{told-other}
 use Rattle.field.specs.Field.{mul, pow}
 use Rattle.field.proofs.Multiplication.{mul_comm, mul-zero-left}
-use Rattle.field.proofs.Exponents.{pow-suc, pow-add}
+use Rattle.field.proofs.Exponents.{pow-suc}
 use Rattle.coefficients.specs.Coefficients.{power_rows, PowersPost}
 use Rattle.coefficients.specs.Working.{powers_of}
 
@@ -38,8 +38,8 @@ row-powers c m lent new h q =
 -- ---- powers by exponents
 
 -- one more power of c, which is 02^l
-pub step-on : (c x l j : ℕ) → pow 2 l ≡ c → pow 2 x ≡ pow c j → pow 2 (x + l) ≡ pow c (suc j)
-step-on c x l j e h = pow-add 2 x l ∙ ap₂ mul h e ∙ mul_comm _ c ∙ sym (pow-suc c j)
+pub step-on : (c x l next j : ℕ) → pow 2 l ≡ c → pow 2 x ≡ pow c j → pow 2 next ≡ mul (pow 2 x) (pow 2 l) → pow 2 next ≡ pow c (suc j)
+step-on c x l next j e h g = g ∙ ap₂ mul h e ∙ mul_comm _ c ∙ sym (pow-suc c j)
 
 -- the powers of 00
 pub zero-powers : (c : ℕ) (new lent : List ℕ) → c ≡ 0 → new ≡ replicate (length lent) 0 → new ≡ powers_of c (length lent)

@@ -1,7 +1,7 @@
 -- The share of the leading coefficients as the code adds it, power by power, point by point and row by row. Assumes nothing.
 use mathlib.Core.Path.{◌≡◌, refl, sym, ap, ap₂, ◌∙◌}
 use mathlib.Core.List.{List}
-use Prim.Native.Nat.{ℕ, suc, ◌+◌, ◌≤◌, ◌<◌}
+use Prim.Native.Nat.{ℕ, suc, ◌+◌, ◌<◌}
 use native.Mathlib.Numerals.{add-one}
 use native.Mathlib.Omega.{arith}
 use lib.ListN.{length, get_or}
@@ -13,17 +13,17 @@ use Rattle.field.specs.Field.{add, mul, pow}
 use Rattle.field.specs.FiniteSum.{sum}
 use Rattle.field.proofs.Addition.{add_assoc, add-zero-right}
 use Rattle.field.proofs.Multiplication.{mul_comm, mul_assoc, mul-zero-left}
-use Rattle.field.proofs.Exponents.{pow-suc, pow-add}
+use Rattle.field.proofs.Exponents.{pow-suc}
 use Rattle.field.proofs.FiniteSum.{sum-zero, sum-ext, sum-last}
-use Rattle.coefficients.specs.Working.{with_powers, with_share, Shared}
+use Rattle.coefficients.specs.Working.{with_powers, with_share}
 use Rattle.coefficients.proofs.Rows.{tabulated}
 
 -- ---- the powers of one point
 
 -- the exponent of g times the next power of x
-pub power-on : (g x l n j : ℕ) → pow 2 l ≡ x → pow 2 n ≡ mul g (pow x j) → pow 2 (n + l) ≡ mul g (pow x (suc j))
-power-on g x l n j hl h =
-    pow-add 2 n l ∙ ap₂ mul h hl ∙ mul_assoc g (pow x j) x ∙ ap (mul g) (mul_comm (pow x j) x ∙ sym (pow-suc x j))
+pub power-on : (g x l n next j : ℕ) → pow 2 l ≡ x → pow 2 n ≡ mul g (pow x j) → pow 2 next ≡ mul (pow 2 n) (pow 2 l) → pow 2 next ≡ mul g (pow x (suc j))
+power-on g x l n next j hl h k =
+    k ∙ ap₂ mul h hl ∙ mul_assoc g (pow x j) x ∙ ap (mul g) (mul_comm (pow x j) x ∙ sym (pow-suc x j))
 
 -- what is added is zeros
 unchanged : (l : List ℕ) (f : ℕ → ℕ) → ((j : ℕ) → f j ≡ 0) → l ≡ tabulate (length l) (λ j. add (get_or l j 0) (f j))
@@ -40,10 +40,6 @@ no-gain g x l z = unchanged l _ (λ j. ap (λ (k : ℕ). mul k (pow x (suc j))) 
 pub share-none : (at gains l : List ℕ) → l ≡ with_share 0 at gains l
 unfolding with_share
 share-none at gains l = unchanged l _ (λ j. sum-zero _)
-
-pub share-length : (n : ℕ) (at gains old new : List ℕ) → new ≡ with_share n at gains old → length new ≡ length old
-unfolding with_share
-share-length n at gains old new h = (tabulated (length old) _ new h).0
 
 pub share-more : (n : ℕ) (at gains old before new : List ℕ) → before ≡ with_share n at gains old → new ≡ with_powers (get_or gains n 0) (get_or at n 0) before
     → new ≡ with_share (n + 1) at gains old
@@ -79,6 +75,3 @@ row-share rows e t at gains old before new done room h =
           ∙ ap₂ add (part_of-at e t before j hj ∙ done.rest t j (omega arith) hj)
           (sum-ext (length at) _ _ (λ o ho. ap (λ (g : ℕ). mul g (pow (get_or at o 0) (suc j))) (part_of-at (length at) t gains o ho))),
     )
-
-pub rows-shared : (rows e t : ℕ) (at gains old new : List ℕ) → rows ≤ t → Blocked e rows (entry e at gains old) t old new → Shared rows e at gains old new
-rows-shared rows e t at gains old new all done = record { entries = λ i j hi hj. done.done i j (omega arith) hj }

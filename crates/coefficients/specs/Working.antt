@@ -1,7 +1,8 @@
 -- What the private functions compute, over lists of points. No exported contract rests on these names. Assumes nothing.
 use Rattle.std.specs.Prelude.{◌≡◌, List, ℕ, suc, ◌+◌, ◌*◌, ◌≤◌, ◌<◌, eqb, length, get_or}
+use Rattle.std.proofs.Props.{props}
 use Rattle.base.specs.Seq.{one, tabulate, cell, blocks}
-use Rattle.field.specs.Field.{IsByte, add, mul, pow}
+use Rattle.field.specs.Field.{IsByte, Bytes, add, mul, pow}
 use Rattle.field.specs.FiniteSum.{sum}
 use Rattle.interpolation.specs.Polynomial.{Points}
 use Rattle.interpolation.specs.Lagrange.{coefs, apart, basis_value}
@@ -60,6 +61,28 @@ pub record Weighable (e : ℕ) (at : List ℕ) : Type 0 where
   pub most : length at ≤ 32
   pub tell : Points at
 
+Points-prop : (at : List ℕ) → IsProp (Points at)
+Points-prop at x y =
+    let bytes_prop : IsProp (Bytes at) = hlevel props in
+    let nonzero_prop : IsProp ((i : ℕ) → i < length at → get_or at i 0 ≡ 0 → ⊥) = hlevel props in
+    let distinct_prop : IsProp ((i j : ℕ) → i < length at → j < length at → get_or at i 0 ≡ get_or at j 0 → i ≡ j) = hlevel props in
+    λ i. record {
+      bytes = bytes_prop x.bytes y.bytes i;
+      nonzero = nonzero_prop x.nonzero y.nonzero i;
+      distinct = distinct_prop x.distinct y.distinct i;
+    }
+
+-- it has one proof at most
+pub Weighable-prop : (e : ℕ) (at : List ℕ) → IsProp (Weighable e at)
+Weighable-prop e at x y =
+    let e_prop : IsProp (e ≤ 32) = hlevel props in
+    let most_prop : IsProp (length at ≤ 32) = hlevel props in
+    λ i. record {
+      e_most = e_prop x.e_most y.e_most i;
+      most = most_prop x.most y.most i;
+      tell = Points-prop at x.tell y.tell i;
+    }
+
 -- for each of the first n points of `at` the exponent of the inverse of its barycentric weight
 pub record Weighed (e : ℕ) (at : List ℕ) (n : ℕ) (weights : List ℕ) : Type 0 where
   pub room : length at ≤ length weights
@@ -72,7 +95,6 @@ basis_values e at target = tabulate (length at) (λ o. basis_value e at (get_or 
 
 -- what such a row asks, with the weights found before
 pub record Findable (e : ℕ) (at weights : List ℕ) (target : ℕ) (gains : List ℕ) : Type 0 where
-  pub formula : Weighable e at
   pub weighed : Weighed e at (length at) weights
   pub nonzero : target ≡ 0 → ⊥
   pub room : length gains ≡ length at
@@ -96,8 +118,7 @@ pub record Carries (e : ℕ) (at targets gains : List ℕ) : Type 0 where
       ≡ sum (length at) (λ o. mul (cell (length at) gains t o) (remaining e (length at) v (get_or at o 0)))
 
 -- what such rows ask
-pub record Carriable (e : ℕ) (at targets gains : List ℕ) : Type 0 where
-  pub formula : Weighable e at
+pub record Carriable (at targets gains : List ℕ) : Type 0 where
   pub nonzero : (t : ℕ) → t < length targets → get_or targets t 0 ≡ 0 → ⊥
   pub room : length gains ≡ length targets * length at
 
@@ -109,9 +130,6 @@ pub record Shared (rows e : ℕ) (at gains old new : List ℕ) : Type 0 where
 -- what this asks
 pub record Sharable (rows e : ℕ) (at gains leading : List ℕ) : Type 0 where
   pub few : rows ≤ 32
-  pub most : length at ≤ 32
-  pub e_most : e ≤ 32
-  pub tell : Points at
   pub gains_room : length gains ≡ rows * length at
   pub room : length leading ≡ rows * e
 

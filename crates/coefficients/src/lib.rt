@@ -5,7 +5,6 @@
 
 mod completing;
 mod distances;
-mod logarithms;
 mod raising;
 mod reading;
 
@@ -14,7 +13,6 @@ ghost use Rattle.coefficients.specs.Coefficients.{PowersPost, ReadsPost, Roomy, 
 
 use base::is_product;
 use points::{different, lists};
-use tables::{logs, powers};
 
 // out := a row for each point: its powers 1, .., m. Where out is longer or shorter than these rows, nothing is written.
 pub fn power_rows(points: &[u8], m: usize, out: &mut [u8])
@@ -23,7 +21,7 @@ pub fn power_rows(points: &[u8], m: usize, out: &mut [u8])
     if !is_product(out.len(), points.len(), m) {
         return;
     }
-    raising::fill_rows(&logs(), &powers(), points, m, out);
+    raising::fill_rows(points, m, out);
 }
 
 // rows := the coefficients that take the values at the points to the k leading coefficients of a polynomial with as many coefficients as there are points:
@@ -48,7 +46,7 @@ pub fn reading_rows(k: usize, points: &[u8], rows: &mut [u8])
     if !different(points) {
         return;
     }
-    reading::basis_rows(&logs(), &powers(), points, k, rows);
+    reading::basis_rows(points, k, rows);
 }
 
 // A polynomial with e leading coefficients, and as many others as `at` has points, is settled by the leading ones and its values at these points. leading and
@@ -60,7 +58,7 @@ pub fn completion_rows(e: usize, at: &[u8], targets: &[u8], leading: &mut [u8], 
     if !can_complete(e, at, targets, leading.len(), gains.len()) {
         return;
     }
-    completing::complete(&logs(), &powers(), e, at, targets, leading, gains);
+    completing::complete(e, at, targets, leading, gains);
 }
 
 // Whether the points and targets, and the lengths of leading and gains, are as the rows ask.

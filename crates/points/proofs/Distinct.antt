@@ -1,6 +1,6 @@
 -- Whether a list has a point, and whether its points are different and none of them 00: each point exceeds those before it, or is compared with them. Assumes nothing.
-use mathlib.Core.Path.{◌≡◌, refl, sym, ap, ◌∙◌, subst}
-use mathlib.Core.Bool.{Bool, true, false, not}
+use mathlib.Core.Path.{◌≡◌, sym, ap, ◌∙◌, subst}
+use mathlib.Core.Bool.{true, false}
 use mathlib.Core.List.{List}
 use mathlib.Core.Logic.{⊎_elim}
 use Prim.Native.Nat.{ℕ, ◌+◌, ◌≤◌, ◌<◌}
@@ -23,24 +23,8 @@ pub among-more : (points : List ℕ) (x n : ℕ) → (get_or points n 0 ≡ x �
 among-more points x n ne before f =
     ⊎_elim (λ (e : f.0 ≡ n). ne (ap (λ (k : ℕ). get_or points k 0) (sym e) ∙ f.2)) (λ other. before (f.0, omega (arith, other, f.1), f.2)) (eq-or f.0 n)
 
--- after n points
-pub none-among : (points : List ℕ) (x n : ℕ) → length points ≤ n → (Among n points x → ⊥) → Decided (Among (length points) points x) false
-none-among points x n h none = decided-false _ (λ f. none (f.0, omega (arith, f.1), f.2))
+-- ---- the largest of the points
 
--- ---- whether x is new: not 00, and none of the points
-
--- it exceeds all of them
-pub new-above : (points : List ℕ) (most x : ℕ) → AtMost most (length points) points → most < x → Decided (New points x) true
-new-above points most x all lt = decided-true _ record { nonzero = λ z. omega arith; other = λ f. omega (arith, all f.0 f.1, f.2) }
-
-pub zero-old : (points : List ℕ) (x : ℕ) → x ≡ 0 → Decided (New points x) false
-zero-old points x z = decided-false _ (λ new. new.nonzero z)
-
-pub new_told : (points : List ℕ) (x : ℕ) (b : Bool) → (x ≡ 0 → ⊥) → Decided (Among (length points) points x) b → Decided (New points x) (not b)
-new_told points x true some d = decided-false _ (λ new. new.other (d.holds refl))
-new_told points x false some d = decided-true _ record { nonzero = some; other = d.fails refl }
-
--- the largest of the points
 pub at-most-more : (points : List ℕ) (n most most' : ℕ) → most ≤ most' → get_or points n 0 ≤ most' → AtMost most n points → AtMost most' (n + 1) points
 at-most-more points n most most' le here all i hi =
     ⊎_elim (λ (e : i ≡ n). subst (λ (k : ℕ). get_or points k 0 ≤ most') (sym e) here) (λ ne. omega (arith, all i (omega (arith, ne)))) (eq-or i n)

@@ -1,7 +1,7 @@
 // Questions about lists of points.
 #![tactic(auto)]
 
-ghost use Rattle.std.specs.Prelude.{◌≤◌, length};
+ghost use Rattle.std.specs.Prelude.{length};
 ghost use Rattle.base.specs.Decided.{Decided};
 ghost use Rattle.interpolation.specs.Polynomial.{Points};
 ghost use Rattle.points.specs.Lists.{Among, AtMost, New};
@@ -12,14 +12,11 @@ pub fn different(points: &[u8]) -> bool
     ensures { Decided (Points points.now) result }
 {
     let mut most = 0u8;
-    let mut i = 0;
-    while i < points.len() {
-        let x = points[i];
-        if !is_new(&points[..i], most, x) {
+    for (i, x) in points.iter().enumerate() {
+        if !is_new(&points[..i], most, *x) {
             return false;
         }
-        most = larger(most, x);
-        i += 1;
+        most = most.max(*x);
     }
     true
 }
@@ -32,31 +29,12 @@ fn is_new(points: &[u8], most: u8, x: u8) -> bool
     if most < x {
         return true;
     }
-    if x == 0 {
-        return false;
-    }
-    !lists(points, x)
-}
-
-fn larger(x: u8, y: u8) -> u8
-    ensures { (x ≤ result) × (y ≤ result) }
-{
-    if x < y {
-        return y;
-    }
-    x
+    x != 0 && !lists(points, x)
 }
 
 // Whether x is one of the points.
 pub fn lists(points: &[u8], x: u8) -> bool
     ensures { Decided (Among (length points.now) points.now x) result }
 {
-    let mut j = 0;
-    while j < points.len() {
-        if points[j] == x {
-            return true;
-        }
-        j += 1;
-    }
-    false
+    points.contains(&x)
 }

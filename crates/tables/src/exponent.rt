@@ -13,8 +13,6 @@ pub struct Exponent {
 }
 
 impl Exponent {
-    pub const ZERO: Exponent = Exponent { value: 0 };
-
     // The exponent of a as a power of 02; 00 is none, and has 0.
     pub fn of(a: u8) -> Exponent
         ensures { (a ≡ 0 → ⊥) → pow 2 result.value ≡ a }

@@ -13,11 +13,7 @@ roomy : (c : Else-not-can_complete) → Roomy c.args.e c.args.at.now c.args.targ
 roomy c = c.can_complete.ensures.holds c.if-not-can_complete.false
 
 pub complete-requires : goal.complete-requires
-complete-requires c = record {
-  log_table = c.logs.ensures;
-  power_table = c.powers.ensures;
-  roomy = roomy (goal.at.complete-requires c).Else-not-can_complete;
-}
+complete-requires c = roomy (goal.at.complete-requires c).Else-not-can_complete
 
 pub returns : goal.returns
 returns c =

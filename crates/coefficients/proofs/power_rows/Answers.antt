@@ -19,11 +19,7 @@ room c =
     told-equal (length s.out.now) (length s.points.now * s.m) c.is_product.result c.is_product.ensures (ap not c.if-not-is_product.false)
 
 pub fill_rows-requires : goal.fill_rows-requires
-fill_rows-requires c = record {
-  log_table = c.logs.ensures;
-  power_table = c.powers.ensures;
-  out_len = room (goal.at.fill_rows-requires c).Else-not-is_product;
-}
+fill_rows-requires c = room (goal.at.fill_rows-requires c).Else-not-is_product
 
 pub returns : goal.returns
 returns c =

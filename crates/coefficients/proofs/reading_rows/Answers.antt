@@ -41,11 +41,7 @@ pub basis_rows-requires : goal.basis_rows-requires
 basis_rows-requires c =
     let r = readable (goal.at.basis_rows-requires c).Else-not-different in
     let none = c.if-k-eq0.false in
-    record {
-      log_table = c.logs.ensures;
-      power_table = c.powers.ensures;
-      columned = record { some = omega (arith, none); few = r.few; most = r.most; tell = r.tell; room = r.room };
-    }
+    record { some = omega (arith, none); few = r.few; most = r.most; tell = r.tell; room = r.room }
 
 pub returns : goal.returns
 returns c =

@@ -1,33 +1,22 @@
-use mathlib.Core.Path.{◌≡◌, ap, ◌∙◌}
+use mathlib.Core.Path.{sym, ap, ap₂, ◌∙◌}
 use Prim.Native.Nat.{ℕ}
-use native.Mathlib.Omega.{arith}
-use lib.ListN.{length}
-use Rattle.coefficients.specs.Working.{with_share}
-use Rattle.coefficients.proofs.Shares.{share-none, share-length, share-more}
+use borrow.Author.Rules.{rules}
+use lib.ListN.{length, length-append}
+use Rattle.std.proofs.lemmas.Slice.Zip.{zip_turn}
+use Rattle.coefficients.specs.Working.{with_powers, with_share}
+use Rattle.coefficients.proofs.Shares.{share-none, share-more}
 use Rattle.coefficients.proofs.completing.add_row_share.Goals as goal
 
-pub loop-o-init : goal.loop-o-init
-loop-o-init c = (omega arith, share-none _ _ _)
+pub loop-g-init : goal.loop-g-init
+loop-g-init c = share-none _ _ _
 
-pub add_powers-requires : goal.add_powers-requires
-add_powers-requires c =
-    let s = c in
-    record {
-      log_table = s.requires.log_table;
-      power_table = s.requires.power_table;
-      fact = s.requires.points.nonzero c.loop-o.o (omega arith);
-    }
-
-pub loop-o-preserved : goal.loop-o-preserved
-loop-o-preserved c =
-    let l = c.loop-o in
-    (omega arith, share-more l.o _ _ _ l.leading _ l.invariant.1 c.add_powers.ensures)
-
-pub shape_of-leading : goal.shape_of-leading
-shape_of-leading c = share-length c.loop-o.o _ _ _ _ c.loop-o.invariant.1
-
-pub returns : goal.returns
-returns c =
-    let s = c in
-    let all : c.loop-o.o ≡ length s.args.at.now = omega arith in
-    c.loop-o.invariant.1 ∙ ap (λ (n : ℕ). with_share n s.args.at.now s.args.gains.now s.args.leading.now) all
+pub loop-g-preserved : goal.loop-g-preserved
+loop-g-preserved c =
+    let s = c.args in
+    let l = c.loop-g in
+    let n = length l.yielded in
+    let turn = zip_turn s.gains.now s.at.now l.yielded c.into_iter-g-iterator.result l.g-iterator c.next.new.self c.next.result
+    (search rules) (search rules) l.yielded_by _ c.in-Some.is c.next.ensures.steps in
+    share-more n s.at.now s.gains.now s.leading.now l.leading _ l.invariant
+    (c.add_powers.ensures ∙ ap₂ (λ (g x : ℕ). with_powers g x l.leading) (turn.2 0) (turn.3 0))
+    ∙ ap (λ (m : ℕ). with_share m s.at.now s.gains.now s.leading.now) (sym (length-append l.yielded _))

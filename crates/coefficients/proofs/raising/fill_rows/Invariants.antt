@@ -1,12 +1,9 @@
 -- After i turns the first i rows are the powers of their points. Assumes nothing.
-use Prim.Native.Nat.{suc, ◌-◌, ◌≤◌}
+use Prim.Native.Nat.{suc}
 use lib.ListN.{length, get_or}
 use Rattle.base.specs.Parts.{Blocked}
 use Rattle.field.specs.Field.{pow}
 use Rattle.coefficients.proofs.raising.fill_rows.Given as goal
 
 abbrev pub invariant-loop-i : goal.invariant-loop-i
-invariant-loop-i l = (l.i ≤ length l.points) × Blocked l.m (length l.points) (λ k j. pow (get_or l.points k 0) (suc j)) l.i l.initial.out l.out
-
-abbrev pub decreases-loop-i : goal.decreases-loop-i
-decreases-loop-i l = length l.points - l.i
+invariant-loop-i l = Blocked l.m (length l.points) (λ k j. pow (get_or l.points k 0) (suc j)) l.i l.initial.out l.out

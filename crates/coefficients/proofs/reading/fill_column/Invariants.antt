@@ -1,13 +1,9 @@
 -- The first entry by exponents, and after j turns the first j entries, each from the one before. Assumes nothing.
 use mathlib.Core.Path.{◌≡◌}
-use Prim.Native.Nat.{◌-◌, ◌≤◌, ◌<◌}
-use lib.ListN.{length}
+use Prim.Native.Nat.{◌-◌}
 use Rattle.coefficients.specs.Working.{basis}
 use Rattle.coefficients.proofs.Basis.{Climbed}
 use Rattle.coefficients.proofs.reading.fill_column.Given as goal
 
 abbrev pub invariant-loop-j : goal.invariant-loop-j
-invariant-loop-j l = (0 < l.j) × (l.j ≤ length l.product) × (l.lead ≡ basis l.points l.i (l.j - 1)) × Climbed l.points l.i l.j l.initial.rows l.rows
-
-abbrev pub decreases-loop-j : goal.decreases-loop-j
-decreases-loop-j l = length l.product - l.j
+invariant-loop-j l = (l.lead ≡ basis l.points l.i (l.j - 1)) × Climbed l.points l.i l.j l.initial.rows l.rows
