@@ -6,6 +6,7 @@ use Rattle.interpolation.specs.Polynomial.{evaluate}
 use Rattle.params.specs.Nodes.{size}
 use Rattle.code.specs.Points.{point_at}
 use Rattle.products.specs.Blocks.{arriving}
+use Rattle.extension.specs.declared.Extension.{Extension}
 
 -- what is asked of the lengths of message, z and out: message has e parts, each place names a block of z, and `to` a block of out for each target
 pub record Extendable (b e at targets : ℕ) (places to : List ℕ) (message z out : ℕ) : Type 0 where
@@ -25,3 +26,11 @@ pub record Extended (b e at targets : ℕ) (message z places to old new : List �
       → (j : ℕ) → cell b new j p
       ≡ add (cell b old j p) (arriving (length to) to (λ t. evaluate e (size at) (λ j. cell b message j p) v (point_at targets t)) j)
   pub others : (j p : ℕ) → p < b → ((t : ℕ) → t < length to → get_or to t 0 ≡ j → ⊥) → cell b new j p ≡ cell b old j p
+
+-- ---- the same of what the code passes
+
+abbrev pub Asks : Extension → ℕ → Type 0
+Asks x out = Extendable x.b x.e x.at.0 x.targets.0 x.places.now x.to.now (length x.message.now) (length x.z.now) out
+
+abbrev pub Adds : Extension → List ℕ → List ℕ → Type 0
+Adds x old new = Extended x.b x.e x.at.0 x.targets.0 x.message.now x.z.now x.places.now x.to.now old new

@@ -2,10 +2,11 @@
 // coefficients are found once, for all blocks and byte places.
 #![tactic(auto)]
 
-ghost use Rattle.std.specs.Prelude.{◌+◌, ◌*◌, ◌≤◌, length};
+ghost use Rattle.std.specs.Prelude.{◌*◌, ◌≤◌, length};
+ghost use Rattle.field.specs.Field.{Bytes};
 ghost use Rattle.params.specs.Nodes.{size};
 ghost use Rattle.extension.specs.Blocks.{RecomputePost, CompletePost};
-ghost use Rattle.extension.specs.Extending.{Extendable, Extended};
+ghost use Rattle.extension.specs.Extending.{Asks, Adds};
 
 use base::is_product;
 use block_numbers::{in_order, places_of};
@@ -38,17 +39,17 @@ pub fn recompute(a: Params, codeword: &[u8], from: NodeSet, targets: NodeSet, fr
     places_of(from, &mut places);
     let order = in_order();
     clear(fresh);
-    extend(
-        a.b,
-        0,
-        from,
+    let wanted = Extension {
+        b: a.b,
+        e: 0,
+        at: from,
         targets,
-        &codeword[..0usize],
-        codeword,
-        &places[..q],
-        &order[..rows],
-        fresh,
-    );
+        message: &codeword[..0usize],
+        z: codeword,
+        places: &places[..q],
+        to: &order[..rows],
+    };
+    wanted.add_to(fresh);
 }
 
 // At each byte place message has the e leading coefficients of a polynomial, and z its values at the nodes of at, in rising order. The targets' blocks of out
@@ -83,101 +84,76 @@ pub fn complete(
     places_of(targets, &mut places);
     let order = in_order();
     clear_blocks(out, targets, b);
-    extend(
+    let wanted = Extension {
         b,
         e,
         at,
         targets,
         message,
         z,
-        &order[..q],
-        &places[..rows],
-        out,
-    );
+        places: &order[..q],
+        to: &places[..rows],
+    };
+    wanted.add_to(out);
 }
 
-// At each byte place message has the e leading coefficients of a polynomial, and z's blocks at the places its values at the nodes of at. Its value at each
-// target is added to the block of out that `to` names for it. Room for the rows is no more than is wanted, since it is cleared at each call.
-fn extend(
+// What is wanted: at each byte place message has the e leading coefficients of a polynomial, and z's blocks at the places its values at the nodes of `at`. Its value
+// at each target goes to the block that `to` names for it.
+#[derive(Clone, Copy)]
+struct Extension<'a> {
     b: usize,
     e: usize,
     at: NodeSet,
     targets: NodeSet,
-    message: &[u8],
-    z: &[u8],
-    places: &[u8],
-    to: &[u8],
-    out: &mut [u8],
-)
-    requires { Extendable b e at.0 targets.0 places.now to.now (length message.now) (length z.now) (length out.old) }
-    ensures { Extended b e at.0 targets.0 message.now z.now places.now to.now out.old out.new }
-{
-    if targets.size() * (e + at.size()) <= 128 {
-        extend_in::<128>(b, e, at, targets, message, z, places, to, out);
-    } else {
-        extend_in::<1024>(b, e, at, targets, message, z, places, to, out);
+    message: &'a [u8],
+    z: &'a [u8],
+    places: &'a [u8],
+    to: &'a [u8],
+}
+
+impl<'a> Extension<'a> {
+    // The values at the targets are added to their blocks of out. Room for the rows is no more than is wanted, since it is cleared at each call.
+    fn add_to(&self, out: &mut [u8])
+        requires asks { Asks self.now (length out.old) }
+        requires bytes { Bytes self.now.message.now }
+        ensures { Adds self.now out.old out.new }
+    {
+        if self.targets.size() * (self.e + self.at.size()) <= 128 {
+            self.add_in::<128>(out);
+        } else {
+            self.add_in::<1024>(out);
+        }
     }
-}
 
-// Kept apart, so that a call takes stack for its own rooms alone.
-#[inline(never)]
-fn extend_in<const ROOM: usize>(
-    b: usize,
-    e: usize,
-    at: NodeSet,
-    targets: NodeSet,
-    message: &[u8],
-    z: &[u8],
-    places: &[u8],
-    to: &[u8],
-    out: &mut [u8],
-)
-    requires extendable { Extendable b e at.0 targets.0 places.now to.now (length message.now) (length z.now) (length out.old) }
-    requires room { (size targets.0 * e ≤ ROOM) × (size targets.0 * size at.0 ≤ ROOM) }
-    requires small { ROOM ≤ 32768 }
-    ensures { Extended b e at.0 targets.0 message.now z.now places.now to.now out.old out.new }
-{
-    let mut leading = [0u8; ROOM];
-    let mut gains = [0u8; ROOM];
-    extend_within(
-        b,
-        e,
-        at,
-        targets,
-        message,
-        z,
-        places,
-        to,
-        &mut leading,
-        &mut gains,
-        out,
-    );
-}
-
-// The same, with room for the rows: leading takes the coefficients to the targets' values, gains the values at the nodes of at.
-fn extend_within(
-    b: usize,
-    e: usize,
-    at: NodeSet,
-    targets: NodeSet,
-    message: &[u8],
-    z: &[u8],
-    places: &[u8],
-    to: &[u8],
-    leading: &mut [u8],
-    gains: &mut [u8],
-    out: &mut [u8],
-)
-    requires extendable { Extendable b e at.0 targets.0 places.now to.now (length message.now) (length z.now) (length out.old) }
-    requires e_in_bounds { (size targets.0 * e ≤ length leading.old) × (size targets.0 * size at.0 ≤ length gains.old) }
-    ensures { Extended b e at.0 targets.0 message.now z.now places.now to.now out.old out.new }
-{
-    let rows = targets.size();
-    let q = at.size();
-    let first = rows * e;
-    let second = rows * q;
-    let columns = in_order();
-    extending_rows(e, at, targets, &mut leading[..first], &mut gains[..second]);
-    add_product(out, to, b, message, &columns[..e], &leading[..first], e);
-    add_product(out, to, b, z, places, &gains[..second], q);
+    // The same, with room for the rows: leading takes the coefficients to the targets' values, gains the values at the nodes of `at`. Kept apart, so that a call takes
+    // stack for its own rooms alone.
+    #[inline(never)]
+    fn add_in<const ROOM: usize>(&self, out: &mut [u8])
+        requires asks { Asks self.now (length out.old) }
+        requires bytes { Bytes self.now.message.now }
+        requires room { (size self.now.targets.0 * self.now.e ≤ ROOM) × (size self.now.targets.0 * size self.now.at.0 ≤ ROOM) }
+        requires small { ROOM ≤ 32768 }
+        ensures { Adds self.now out.old out.new }
+    {
+        let Extension {
+            b,
+            e,
+            at,
+            targets,
+            message,
+            z,
+            places,
+            to,
+        } = *self;
+        let rows = targets.size();
+        let q = at.size();
+        let first = rows * e;
+        let second = rows * q;
+        let mut leading = [0u8; ROOM];
+        let mut gains = [0u8; ROOM];
+        let columns = in_order();
+        extending_rows(e, at, targets, &mut leading[..first], &mut gains[..second]);
+        add_product(out, to, b, message, &columns[..e], &leading[..first], e);
+        add_product(out, to, b, z, places, &gains[..second], q);
+    }
 }

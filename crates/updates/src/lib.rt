@@ -68,7 +68,9 @@ fn spread(a: Params, change: &[u8], to: NodeSet, takers: NodeSet, targets: &[u8]
     }
 }
 
-// Kept apart, so that a call takes stack for its own rooms alone.
+// The same, with room for the rows that take the change, and the values at the nodes outside `to`, to the values at the takers. The values outside are all
+// 00, so that the leading rows alone are applied. What the product reads is lent anew, for the reason that encode_within of crate encoding gives. Kept apart, so
+// that a call takes stack for its own rooms alone.
 #[inline(never)]
 fn spread_in<const ROOM: usize>(
     a: Params,
@@ -83,36 +85,6 @@ fn spread_in<const ROOM: usize>(
     requires small { ROOM ≤ 32768 }
     ensures { Spread a change.now to.0 takers.0 targets.now out.old out.new }
 {
-    let mut leading = [0u8; ROOM];
-    let mut gains = [0u8; ROOM];
-    spread_within(
-        a,
-        change,
-        to,
-        takers,
-        targets,
-        &mut leading,
-        &mut gains,
-        out,
-    );
-}
-
-// The same, with room for the rows that take the change, and the values at the nodes outside `to`, to the values at the takers. The values outside are all
-// 00, so that the leading rows alone are applied. What the product reads is lent anew, for the reason that encode_within of crate encoding gives.
-fn spread_within(
-    a: Params,
-    change: &[u8],
-    to: NodeSet,
-    takers: NodeSet,
-    targets: &[u8],
-    leading: &mut [u8],
-    gains: &mut [u8],
-    out: &mut [u8],
-)
-    requires spreadable { Spreadable a (length change.now) to.0 takers.0 targets.now (length out.old) }
-    requires n_in_bounds { (length targets.now * a.n ≤ length leading.old) × (length targets.now * a.n ≤ length gains.old) }
-    ensures { Spread a change.now to.0 takers.0 targets.now out.old out.new }
-{
     let m = targets.len();
     let k = a.k;
     let b = a.b;
@@ -120,6 +92,8 @@ fn spread_within(
     let leading_area = m * k;
     let gains_area = m * l;
     let outside = to.outside(a.n);
+    let mut leading = [0u8; ROOM];
+    let mut gains = [0u8; ROOM];
     extending_rows(
         k,
         outside,

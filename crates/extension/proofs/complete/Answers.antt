@@ -53,9 +53,9 @@ slice_bounds-order-end c =
     let l = lists (goal.at.slice_bounds-order-end c).After-in_order-order in
     omega (arith, size-most _ l.at_word, l.at_count, ap length l.ordered ∙ length-in-order)
 
-pub slice_bounds-extend-end : goal.slice_bounds-extend-end
-slice_bounds-extend-end c =
-    let l = lists (goal.at.slice_bounds-extend-end c).After-in_order-order in
+pub slice_bounds-wanted-end : goal.slice_bounds-wanted-end
+slice_bounds-wanted-end c =
+    let l = lists (goal.at.slice_bounds-wanted-end c).After-in_order-order in
     sym (first-length _ l.ordered _ (omega (arith, size-most _ l.at_word, l.at_count)))
 
 pub slice_bounds-places-end : goal.slice_bounds-places-end
@@ -63,14 +63,14 @@ slice_bounds-places-end c =
     let l = lists (goal.at.slice_bounds-places-end c).After-in_order-order in
     omega (arith, size-most _ l.targets_word, l.targets_count, ap length l.placed ∙ length-places _)
 
-pub slice_bounds-extend-end-2 : goal.slice_bounds-extend-end-2
-slice_bounds-extend-end-2 c =
-    let l = lists (goal.at.slice_bounds-extend-end-2 c).After-in_order-order in
+pub slice_bounds-wanted-end-2 : goal.slice_bounds-wanted-end-2
+slice_bounds-wanted-end-2 c =
+    let l = lists (goal.at.slice_bounds-wanted-end-2 c).After-in_order-order in
     sym (placed-length _ l.targets_word _ l.placed _ l.targets_count)
 
-pub extend-requires : goal.extend-requires
-extend-requires c =
-    let e = (goal.at.extend-requires c).After-in_order-order in
+pub add_to-requires-clause-asks : goal.add_to-requires-clause-asks
+add_to-requires-clause-asks c =
+    let e = (goal.at.add_to-requires-clause-asks c).After-in_order-order in
     let l = lists e in
     let s = c.args in
     complete-asks _ _ _ _ _ _ _ _ s.message.now s.z.now s.out.now l.at_word l.targets_word l.at_count l.targets_count l.placed l.ordered (asked e) _
@@ -82,4 +82,4 @@ returns c =
     let l = lists e in
     let s = c.args in
     completed _ _ _ _ _ _ _ _ s.message.now s.z.now s.out.now l.at_word l.targets_word l.at_count l.targets_count l.placed l.ordered (asked e) _ _
-    c.clear_blocks.ensures c.extend.ensures
+    c.clear_blocks.ensures c.add_to.ensures

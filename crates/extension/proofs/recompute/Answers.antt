@@ -59,9 +59,9 @@ slice_bounds-places-end c =
     let l = lists (goal.at.slice_bounds-places-end c).After-in_order-order in
     omega (arith, size-most _ l.from_word, l.from_count, ap length l.placed ∙ length-places _)
 
-pub slice_bounds-extend-end-2 : goal.slice_bounds-extend-end-2
-slice_bounds-extend-end-2 c =
-    let l = lists (goal.at.slice_bounds-extend-end-2 c).After-in_order-order in
+pub slice_bounds-wanted-end-2 : goal.slice_bounds-wanted-end-2
+slice_bounds-wanted-end-2 c =
+    let l = lists (goal.at.slice_bounds-wanted-end-2 c).After-in_order-order in
     sym (placed-length _ l.from_word _ l.placed _ l.from_count)
 
 pub slice_bounds-order-end : goal.slice_bounds-order-end
@@ -69,14 +69,14 @@ slice_bounds-order-end c =
     let l = lists (goal.at.slice_bounds-order-end c).After-in_order-order in
     omega (arith, size-most _ l.targets_word, l.targets_count, ap length l.ordered ∙ length-in-order)
 
-pub slice_bounds-extend-end-3 : goal.slice_bounds-extend-end-3
-slice_bounds-extend-end-3 c =
-    let l = lists (goal.at.slice_bounds-extend-end-3 c).After-in_order-order in
+pub slice_bounds-wanted-end-3 : goal.slice_bounds-wanted-end-3
+slice_bounds-wanted-end-3 c =
+    let l = lists (goal.at.slice_bounds-wanted-end-3 c).After-in_order-order in
     sym (first-length _ l.ordered _ (omega (arith, size-most _ l.targets_word, l.targets_count)))
 
-pub extend-requires : goal.extend-requires
-extend-requires c =
-    let e = (goal.at.extend-requires c).After-in_order-order in
+pub add_to-requires-clause-asks : goal.add_to-requires-clause-asks
+add_to-requires-clause-asks c =
+    let e = (goal.at.add_to-requires-clause-asks c).After-in_order-order in
     let l = lists e in
     recompute-asks _ _ _ _ _ _ l.from_word l.targets_word l.from_count l.targets_count l.placed l.ordered c.args.a c.args.codeword.now
     c.args.fresh.now (asked e) _ c.clear.auto.dst
@@ -86,4 +86,4 @@ returns c =
     let e = (goal.at.returns c).After-in_order-order in
     let l = lists e in
     recomputed _ _ _ _ _ _ l.from_word l.targets_word l.from_count l.targets_count l.placed l.ordered c.args.a c.args.codeword.now
-    c.args.fresh.now (asked e) _ _ _ c.clear.ensures c.clear.auto.dst c.extend.ensures
+    c.args.fresh.now (asked e) _ _ _ c.clear.ensures c.clear.auto.dst c.add_to.ensures
