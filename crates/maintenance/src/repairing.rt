@@ -49,7 +49,7 @@ fn repair_blocks(a: Params, codeword: &mut [u8], from: NodeSet, lost: NodeSet)
     }
 }
 
-// Kept apart, so that a call takes stack for its own room alone.
+// The same, with room for them: all are found before any is written. Kept apart, so that a call takes stack for its own room alone.
 #[inline(never)]
 fn repair_in<const ROOM: usize>(a: Params, codeword: &mut [u8], from: NodeSet, lost: NodeSet)
     requires rebuildable { Rebuildable a from.0 lost.0 (length codeword.old) }
@@ -57,17 +57,8 @@ fn repair_in<const ROOM: usize>(a: Params, codeword: &mut [u8], from: NodeSet, l
     requires small { ROOM ≤ 32768 }
     ensures { Rebuilt a from.0 lost.0 codeword.old codeword.new }
 {
-    let mut fresh = [0u8; ROOM];
-    repair_within(a, codeword, from, lost, &mut fresh);
-}
-
-// All lost blocks are found before any is written.
-fn repair_within(a: Params, codeword: &mut [u8], from: NodeSet, lost: NodeSet, fresh: &mut [u8])
-    requires rebuildable { Rebuildable a from.0 lost.0 (length codeword.old) }
-    requires b_in_bounds { size lost.0 * a.b ≤ length fresh.old }
-    ensures { Rebuilt a from.0 lost.0 codeword.old codeword.new }
-{
     let used = lost.size() * a.b;
+    let mut fresh = [0u8; ROOM];
     recompute(a, codeword, from, lost, &mut fresh[..used]);
     put_blocks(codeword, lost, &fresh[..used], a.b);
 }

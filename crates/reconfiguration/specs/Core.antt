@@ -8,6 +8,7 @@ use Rattle.params.specs.declared.Shape.{Shape}
 use Rattle.code.specs.Code.{block, Gives}
 use Rattle.code.specs.Calls.{writes}
 use Rattle.code.specs.Slacks.{Slack}
+use Rattle.reconfiguration.specs.declared.Rearrangement.{Rearrangement}
 
 -- from has as many nodes of 1..n as message and slack have parts, W' has w' nodes of 1..n', each buffer has just its blocks, and these are not too many and not
 -- too long
@@ -32,3 +33,11 @@ pub record Rewritten (a : Params) (t : Shape) (old : List ℕ) (from to : ℕ) (
   pub written : (y v s : List ℕ) → Gives a y v (has from) old → Slack (reshaped a t) x (has to) (block a y v) s
       → (j p : ℕ) → j < t.n → writes a to (suc j) ≡ true → p < a.b → cell a.b new j p ≡ block (reshaped a t) x s (suc j) p
   pub copied : (j p : ℕ) → j < t.n → writes a to (suc j) ≡ false → p < a.b → cell a.b new j p ≡ cell a.b old j p
+
+-- ---- the same of what the code passes
+
+abbrev pub Asks : Rearrangement → ℕ → Type 0
+Asks x out = Reconfigurable x.a x.shape (length x.codeword.now) out (length x.message.now) x.from.0 x.to.0
+
+abbrev pub Writes : Rearrangement → List ℕ → Type 0
+Writes x new = Rewritten x.a x.shape x.codeword.now x.from.0 x.to.0 x.message.now new

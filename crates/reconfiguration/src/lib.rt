@@ -7,7 +7,7 @@
 ghost use Rattle.std.specs.Prelude.{◌*◌, ◌≤◌, length};
 ghost use Rattle.params.specs.Params.{slack_parts, reshaped};
 ghost use Rattle.code.specs.Calls.{ReconfigurePost};
-ghost use Rattle.reconfiguration.specs.Core.{Reconfigurable, Rewritten};
+ghost use Rattle.reconfiguration.specs.Core.{Asks, Writes};
 
 use blocks::copy_block;
 use extension::{complete, recompute};
@@ -45,75 +45,79 @@ pub fn reconfigure(
         return refusal;
     }
     let chosen = from.lowest(a.working());
-    reconfigure_blocks(a, shape, codeword, chosen, to, message, out);
+    let core = Rearrangement {
+        a,
+        shape,
+        codeword,
+        from: chosen,
+        to,
+        message,
+    };
+    core.write(out);
     let made = to.outside(a.n).outside(shape.n);
     hand_on(serials, made, highest(serials, from), numbers);
     0
 }
 
-// Makes room for the old pair's blocks outside W', no more than is wanted, since room is cleared at each call.
-fn reconfigure_blocks(
+// The old record and its parameters, the set that its pair is read from, and the new shape, W' and message.
+#[derive(Clone, Copy)]
+struct Rearrangement<'a> {
     a: Params,
     shape: Shape,
-    codeword: &[u8],
+    codeword: &'a [u8],
     from: NodeSet,
     to: NodeSet,
-    message: &[u8],
-    out: &mut [u8],
-)
-    requires { Reconfigurable a shape (length codeword.now) (length out.old) (length message.now) from.0 to.0 }
-    ensures { Rewritten a shape codeword.now from.0 to.0 message.now out.new }
-{
-    let size = to.outside(shape.n).size() * a.b;
-    if size <= 128 {
-        reconfigure_in::<128>(a, shape, codeword, from, to, message, out);
-    } else if size <= 1024 {
-        reconfigure_in::<1024>(a, shape, codeword, from, to, message, out);
-    } else {
-        reconfigure_in::<32768>(a, shape, codeword, from, to, message, out);
+    message: &'a [u8],
+}
+
+impl<'a> Rearrangement<'a> {
+    // Makes room for the old pair's blocks outside W', no more than is wanted, since room is cleared at each call.
+    fn write(&self, out: &mut [u8])
+        requires { Asks self.now (length out.old) }
+        ensures { Writes self.now out.new }
+    {
+        let size = self.to.outside(self.shape.n).size() * self.a.b;
+        if size <= 128 {
+            self.write_in::<128>(out);
+        } else if size <= 1024 {
+            self.write_in::<1024>(out);
+        } else {
+            self.write_in::<32768>(out);
+        }
     }
-}
 
-// Kept apart, so that a call takes stack for its own room alone.
-#[inline(never)]
-fn reconfigure_in<const ROOM: usize>(
-    a: Params,
-    shape: Shape,
-    codeword: &[u8],
-    from: NodeSet,
-    to: NodeSet,
-    message: &[u8],
-    out: &mut [u8],
-)
-    requires reconfigurable { Reconfigurable a shape (length codeword.now) (length out.old) (length message.now) from.0 to.0 }
-    requires room { slack_parts (reshaped a shape) * a.b ≤ ROOM }
-    requires small { ROOM ≤ 32768 }
-    ensures { Rewritten a shape codeword.now from.0 to.0 message.now out.new }
-{
-    let mut z = [0u8; ROOM];
-    reconfigure_within(a, shape, codeword, from, to, message, &mut z, out);
-}
+    // Kept apart, so that a call takes stack for its own room alone.
+    #[inline(never)]
+    fn write_in<const ROOM: usize>(&self, out: &mut [u8])
+        requires asks { Asks self.now (length out.old) }
+        requires room { slack_parts (reshaped self.now.a self.now.shape) * self.now.a.b ≤ ROOM }
+        requires small { ROOM ≤ 32768 }
+        ensures { Writes self.now out.new }
+    {
+        let mut z = [0u8; ROOM];
+        self.write_over(&mut z, out);
+    }
 
-// z: the old pair's blocks at the nodes outside W'. The new pair's blocks in W' and above n then go over a copy of the old record.
-fn reconfigure_within(
-    a: Params,
-    shape: Shape,
-    codeword: &[u8],
-    from: NodeSet,
-    to: NodeSet,
-    message: &[u8],
-    z: &mut [u8],
-    out: &mut [u8],
-)
-    requires reconfigurable { Reconfigurable a shape (length codeword.now) (length out.old) (length message.now) from.0 to.0 }
-    requires b_in_bounds { slack_parts (reshaped a shape) * a.b ≤ length z.old }
-    ensures { Rewritten a shape codeword.now from.0 to.0 message.now out.new }
-{
-    let free = to.outside(shape.n);
-    let kept = to.outside(a.n);
-    let made = kept.outside(shape.n);
-    let old = free.size() * a.b;
-    recompute(a, codeword, from, free, &mut z[..old]);
-    copy_block(out, codeword);
-    complete(a.b, shape.k, free, made, message, &z[..old], out);
+    // z: the old pair's blocks at the nodes outside W'. The new pair's blocks in W' and above n then go over a copy of the old record.
+    fn write_over(&self, z: &mut [u8], out: &mut [u8])
+        requires asks { Asks self.now (length out.old) }
+        requires b_in_bounds { slack_parts (reshaped self.now.a self.now.shape) * self.now.a.b ≤ length z.old }
+        ensures { Writes self.now out.new }
+    {
+        let Rearrangement {
+            a,
+            shape,
+            codeword,
+            from,
+            to,
+            message,
+        } = *self;
+        let free = to.outside(shape.n);
+        let kept = to.outside(a.n);
+        let made = kept.outside(shape.n);
+        let old = free.size() * a.b;
+        recompute(a, codeword, from, free, &mut z[..old]);
+        copy_block(out, codeword);
+        complete(a.b, shape.k, free, made, message, &z[..old], out);
+    }
 }

@@ -10,8 +10,8 @@ use Rattle.reconfiguration.proofs.reconfigure.Goals as goal
 pub returns-then-refusal-ne0 : goal.returns-then-refusal-ne0
 returns-then-refusal-ne0 c = refused _ _ c.reconfigure_gate-refusal.ensures c.if-refusal-ne0.true (refl, refl)
 
-pub reconfigure_blocks-requires : goal.reconfigure_blocks-requires
-reconfigure_blocks-requires c =
+pub write-requires : goal.write-requires
+write-requires c =
     let ok = (reconfigure-accepted _ _ _ _ _ _ _ _ _).0 (sym c.reconfigure_gate-refusal.ensures ∙ c.if-refusal-ne0.false) in
     let chosen : Uses c.args.a c.args.from.0 c.lowest-chosen.result.0 =
     uses _ _ _ _ ok.valid ok.from_within ok.from_size (omega arith) (omega arith) c.working.ensures c.lowest-chosen.ensures in
@@ -25,7 +25,7 @@ returns c =
     uses _ _ _ _ ok.valid ok.from_within ok.from_size (omega arith) (omega arith) c.working.ensures c.lowest-chosen.ensures in
     served _ (sym c.reconfigure_gate-refusal.ensures ∙ c.if-refusal-ne0.false) (
       reconfigured s.a s.shape s.from.0 _ s.to.0 chosen _ _ s.codeword.now s.message.now s.out.now _ ok
-          (λ i. omega (arith, c.type_inv.codeword i)) (λ i. omega (arith, c.type_inv.message i)) c.reconfigure_blocks.ensures,
+          (λ i. omega (arith, c.type_inv.codeword i)) (λ i. omega (arith, c.type_inv.message i)) c.write.ensures,
       restamped s.a s.shape _ _ _ s.from.0 s.to.0 _ _ _ s.serials.now s.numbers.now _ ok c.outside.ensures
           c.outside-made.ensures c.highest.ensures c.hand_on.ensures,
     )

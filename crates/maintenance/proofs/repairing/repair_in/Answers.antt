@@ -2,18 +2,24 @@
 use mathlib.Core.Path.{◌≡◌, ap, ◌∙◌, subst, subst⁻¹}
 use mathlib.Core.List.{List}
 use Prim.Native.Nat.{ℕ, ◌*◌, ◌≤◌}
-use lib.ListN.{length}
+use native.Mathlib.Omega.{arith}
+use lib.ListN.{length, replicate, length-replicate}
 use lib.Seq.{length-take-le}
 use Rattle.base.proofs.Buffers.{buffer-front}
 use Rattle.placing.specs.Placed.{PutPost}
 use Rattle.maintenance.proofs.Rebuilding.{rebuilt}
-use Rattle.maintenance.proofs.repairing.repair_within.Goals as goal
+use Rattle.maintenance.proofs.repairing.repair_in.Goals as goal
 
 pub returns : goal.returns
-returns c =
+returns g c =
     let s = c.args in
-    -- the part of fresh that is used
-    let fits : c.size.result * s.a.b ≤ length s.fresh.now = subst⁻¹ (λ (m : ℕ). m * s.a.b ≤ length s.fresh.now) c.size.ensures c.requires.b_in_bounds in
+    let room = replicate {A = ℕ} g.row.ROOM 0 in
+    -- the part of it that is used
+    let fits : c.size.result * s.a.b ≤ length room = omega (
+      arith,
+      length-replicate {A = ℕ} g.row.ROOM 0,
+      subst⁻¹ (λ (m : ℕ). m * s.a.b ≤ g.row.ROOM) c.size.ensures c.requires.room,
+    ) in
     -- it comes back as long as it was
     let back : length c.recompute.new.fresh ≡ c.size.result * s.a.b = c.recompute.auto.fresh ∙ length-take-le _ _ fits in
     rebuilt s.a s.from.0 s.lost.0 s.codeword.now c.requires.rebuildable _ _ _
