@@ -21,29 +21,22 @@ use Rattle.code.specs.Calls.{Serves, NoneBefore, Blames}
 use Rattle.code.specs.declared.Blame.{Blame}
 use Rattle.code.proofs.Serving.{none_first, none-next, stopped-size}
 use Rattle.consistency.specs.Tested.{Testable}
+use Rattle.probes.specs.declared.Probes.{Probes}
 use Rattle.probes.specs.Probes.{Probed}
 use Rattle.checking.specs.Cores.{Searchable, Given}
 
-pub record Searching (a : Params) (codeword : List ℕ) (budget fresh : ℕ) (places picked : List ℕ) (s tried probes : ℕ) : Type 0 where
+pub record Searching (a : Params) (codeword : List ℕ) (budget fresh : ℕ) (probes : Probes) (s tried : ℕ) : Type 0 where
   pub asks : Searchable a (length codeword) fresh
   pub inside : within a.n s ≡ true
   pub none : NoneBefore a codeword s
   pub few : size s + working a ≤ a.n
   pub count : earlier a.n s ≡ tried
   pub within_budget : tried ≤ budget
-  pub probed : Probed a codeword probes places picked
+  pub probed : Probed a codeword probes
 
 working-pos : (a : Params) → Valid a → 1 ≤ working a
 unfolding working slack_parts
 working-pos a ok = omega (arith, ok.shape.k_low)
-
-pub probed_none : (a : Params) (codeword places picked : List ℕ) → Probed a codeword 0 places picked
-probed_none a codeword places picked =
-    record {
-      most = zero-le;
-      inside = λ i h. absurd (not-suc-le-zero h);
-      holds = λ j i hj h. absurd (not-suc-le-zero h);
-    }
 
 -- ---- the empty set
 
@@ -81,9 +74,9 @@ module _ (a : Params) (codeword : List ℕ) (budget fresh : ℕ) (ok : Searchabl
 
 -- ---- the sets behind it
 
-module _ (a : Params) (codeword : List ℕ) (budget fresh : ℕ) (places picked : List ℕ) where
-  pub search-start : Searchable a (length codeword) fresh → Searching a codeword budget fresh places picked 0 0 0
-  search-start ok =
+module _ {a : Params} {codeword : List ℕ} {budget fresh : ℕ} {probes : Probes} where
+  pub search-start : Searchable a (length codeword) fresh → Probed a codeword probes → Searching a codeword budget fresh probes 0 0
+  search-start ok told =
       record {
         asks = ok;
         inside = empty-inside a.n;
@@ -91,10 +84,10 @@ module _ (a : Params) (codeword : List ℕ) (budget fresh : ℕ) (places picked 
         few = first-few a ok.check.valid;
         count = earlier-first a.n;
         within_budget = zero-le;
-        probed = probed_none a codeword places picked;
+        probed = told;
       }
 
-  module _ (s tried probes : ℕ) (at : Searching a codeword budget fresh places picked s tried probes) where
+  module _ {s tried : ℕ} (at : Searching a codeword budget fresh probes s tried) where
     pub search-testable : Testable a s (length codeword) fresh
     search-testable = record { check = at.asks.check; inside = at.inside; few = at.few; room = at.asks.room }
 
@@ -109,10 +102,9 @@ module _ (a : Params) (codeword : List ℕ) (budget fresh : ℕ) (places picked 
           distance_is = refl;
         })
 
-    pub search-next : (fresh' : ℕ) (places' picked' : List ℕ) (t probes' : ℕ) → Bytes codeword → tried < budget → (Serves a codeword s → ⊥)
-        → Probed a codeword probes' places' picked' → fresh' ≡ fresh
-        → NextPost a.n s t → Searching a codeword budget fresh' places' picked' t (tried + 1) probes'
-    search-next fresh' places' picked' t probes' bytes more fails told ef post =
+    pub search-next : {fresh' t : ℕ} {probes' : Probes} → Bytes codeword → tried < budget → (Serves a codeword s → ⊥) → Probed a codeword probes' → fresh' ≡ fresh
+        → NextPost a.n s t → Searching a codeword budget fresh' probes' t (tried + 1)
+    search-next {fresh'} {t} {probes'} bytes more fails told ef post =
         let valid = at.asks.check.valid in
         let next =
         post.next (record { n_high = valid.shape.n_high; inside = at.inside; not_all = omega (arith, at.few, working-pos a valid) }) in
@@ -131,15 +123,14 @@ module _ (a : Params) (codeword : List ℕ) (budget fresh : ℕ) (places picked 
           probed = told;
         }
 
-    pub search-stopped : (blame : Blame) → budget ≤ tried → Given a s tried blame → Blames a codeword budget blame
+    pub search-stopped : (blame : Blame) → budget ≤ tried → Given a s budget blame → Blames a codeword budget blame
     search-stopped blame spent given =
-        let all : tried ≡ budget = omega (arith, at.within_budget) in
         inr (record {
           untried = s;
           inside = at.inside;
           first = at.none;
-          reached = at.count ∙ all;
+          reached = omega (arith, at.count, at.within_budget);
           set_is = given.set_is;
-          tried_is = given.tried_is ∙ all;
+          tried_is = given.tried_is;
           distance_is = given.distance_is;
         })

@@ -2,7 +2,7 @@
 use mathlib.Core.Path.{◌≡◌, refl, sym, ap, ap₂, ◌∙◌}
 use mathlib.Core.Bool.{Bool, true, false, not, ◌&&◌}
 use mathlib.Core.List.{List}
-use Prim.Native.Nat.{ℕ, zero, suc, ◌*◌, ◌^◌, ◌≤◌, ◌<◌}
+use Prim.Native.Nat.{ℕ, suc, ◌*◌, ◌^◌, ◌≤◌, ◌<◌}
 use native.Mathlib.Nat.{le_trans, mul-le-mul_right}
 use native.Mathlib.Omega.{arith}
 use borrow.Author.Tests.{not-true}
@@ -14,13 +14,14 @@ use Rattle.base.proofs.Questions.{both-known}
 use Rattle.field.specs.Field.{Bytes}
 use Rattle.params.specs.Nodes.{has, size, within, count}
 use Rattle.params.specs.Params.{working}
+use Rattle.std.specs.Prelude.{Option, Some, None}
+use Rattle.params.specs.declared.Node.{Node}
 use Rattle.params.specs.declared.Params.{Params}
 use Rattle.params.proofs.Sets.{count-le, count-sub, range-yes, within-size, within_has, has-and}
 use Rattle.params.proofs.Lowest.{Lowest, lowest-has, lowest-size, lowest-all}
 use Rattle.params.proofs.Outside.{Outside, outside-has, outside-le, outside-node, outside-size}
 use Rattle.gates.specs.Valid.{Valid}
 use Rattle.code.specs.Code.{block, Gives}
-use Rattle.code.specs.Calls.{Serves}
 use Rattle.code.proofs.Pairs.{Reads, pair-exists}
 use Rattle.code.proofs.Serving.{serves_by}
 use Rattle.placing.specs.Placed.{Puttable, ComparePost}
@@ -90,8 +91,8 @@ module _ (a : Params) (s codeword room q most rest chosen out others : ℕ) (ok 
       outer : (t u : ℕ) → Outside a.n t u → has t (suc j) ≡ false → has u (suc j) ≡ true
       outer t u told e = outside-has a.n t u n_high told (suc j) ∙ ap₂ (λ (x y : Bool). x && not y) (range-yes a.n j hj) e
 
-  module _ (word : List ℕ) (bytes : Bytes word) (before fresh : List ℕ) (node : ℕ) (long : length word ≡ codeword) (rooms : length before ≡ size others * a.b)
-      (again : RecomputePost a chosen others word before fresh) (told : ComparePost a.b others word fresh node) where
+  module _ (word : List ℕ) (bytes : Bytes word) (before fresh : List ℕ) (long : length word ≡ codeword) (rooms : length before ≡ size others * a.b)
+      (again : RecomputePost a chosen others word before fresh) where
     valid : Valid a
     valid = ok.check.valid
 
@@ -115,34 +116,26 @@ module _ (a : Params) (s codeword room q most rest chosen out others : ℕ) (ok 
           room = again.same ∙ rooms;
         }
 
-    pub tested : Tested a s most word node
-    tested =
+    agrees : ComparePost a.b others word fresh None → a.n ≤ most → (j p : ℕ) → j < a.n → has s (suc j) ≡ false → p < a.b → (b : Bool) → has chosen (suc j) ≡ b
+        → block a one-pair.0 one-pair.1 (suc j) p ≡ cell a.b word j p
+    agrees like enough j p hj e hp true c = one-pair.2.equal j p hj c hp
+    agrees like enough j p hj e hp false c = let o = all enough j hj e c in sym (found j p o hp) ∙ like puts j o p hp
+
+    pub tested : (node : Option Node) → ComparePost a.b others word fresh node → Tested a s most word node
+    tested (Some node) (ok, other) =
+        let inside = others-node other.j other.inside in
+        λ v. other.unlike (λ p hp.
+        found other.j p other.inside hp
+        ∙ (serves_by a valid word (has chosen) full s (λ i h. ap not (chosen-node i h).1) one-pair.0 one-pair.1 one-pair.2 v).equal other.j p inside.0
+        (ap not inside.1) hp)
+    tested None like =
+        λ enough.
         record {
-          fails = λ some v. differs some v node refl;
-          serves = λ none enough.
+          message = one-pair.0;
+          slack = one-pair.1;
+          gives =
               record {
-                message = one-pair.0;
-                slack = one-pair.1;
-                gives =
-                    record {
-                      pair = one-pair.2.pair;
-                      equal = λ j p hj e hp. agrees none enough j p hj (not-true (has s (suc j)) e) hp (has chosen (suc j)) refl;
-                    };
+                pair = one-pair.2.pair;
+                equal = λ j p hj e hp. agrees like enough j p hj (not-true (has s (suc j)) e) hp (has chosen (suc j)) refl;
               };
         }
-      where
-        differs : (node ≡ 0 → ⊥) → Serves a word s → (m : ℕ) → node ≡ m → ⊥
-        differs some v zero e = some e
-        differs some v (suc j) e =
-            let l = told.lowest j e in
-            let inside = others-node j l.0 in
-            l.1 (λ p hp.
-            found j p l.0 hp
-            ∙ (serves_by a valid word (has chosen) full s (λ i h. ap not (chosen-node i h).1) one-pair.0 one-pair.1 one-pair.2 v).equal j p inside.0
-            (ap not inside.1) hp)
-
-        agrees : node ≡ 0 → a.n ≤ most → (j p : ℕ) → j < a.n → has s (suc j) ≡ false → p < a.b → (b : Bool) → has chosen (suc j) ≡ b
-            → block a one-pair.0 one-pair.1 (suc j) p ≡ cell a.b word j p
-        agrees none enough j p hj e hp true c = one-pair.2.equal j p hj c hp
-        agrees none enough j p hj e hp false c =
-            let o = all enough j hj e c in sym (found j p o hp) ∙ told.equal puts none j o p hp

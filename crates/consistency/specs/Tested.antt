@@ -1,7 +1,8 @@
 -- What trying a set asks and tells, for contracts of functions inside the library: no post-condition of a call rests on these names. Assumes nothing.
-use Rattle.std.specs.Prelude.{◌≡◌, true, List, ℕ, ◌+◌, ◌-◌, ◌*◌, ◌≤◌}
+use Rattle.std.specs.Prelude.{◌≡◌, true, List, ℕ, ◌+◌, ◌-◌, ◌*◌, ◌≤◌, Option, Some, None}
 use Rattle.params.specs.Nodes.{size, within}
 use Rattle.params.specs.Params.{working}
+use Rattle.params.specs.declared.Node.{Node}
 use Rattle.params.specs.declared.Params.{Params}
 use Rattle.gates.specs.Valid.{Valid}
 use Rattle.code.specs.Calls.{Serves}
@@ -19,6 +20,6 @@ pub record Testable (a : Params) (s codeword fresh : ℕ) : Type 0 where
   pub room : (a.n - working a) * a.b ≤ fresh
 
 -- A node that is named shows that the set does not serve. Where none is, and all were compared, it serves.
-pub record Tested (a : Params) (s most : ℕ) (codeword : List ℕ) (node : ℕ) : Type 0 where
-  pub fails : (node ≡ 0 → ⊥) → Serves a codeword s → ⊥
-  pub serves : node ≡ 0 → a.n ≤ most → Serves a codeword s
+abbrev pub Tested : Params → ℕ → ℕ → List ℕ → Option Node → Type 0
+Tested a s most codeword (Some node) = Serves a codeword s → ⊥
+Tested a s most codeword None = a.n ≤ most → Serves a codeword s

@@ -1,3 +1,4 @@
 mod Turns
+mod Walk
 mod Comparing
 pub mod Settled

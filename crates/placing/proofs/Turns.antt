@@ -8,7 +8,8 @@ use native.Mathlib.Nat.{suc-mul}
 use native.Mathlib.Omega.{arith}
 use borrow.Author.Tests.{not-false}
 use lib.Dec.{eqb}
-use lib.ListN.{length, get_or, replicate, length-replicate}
+use lib.ListN.{length, get_or, take, replicate, length-replicate}
+use lib.Seq.{get_or-take, length-take-le}
 use Rattle.base.specs.Decided.{Decided}
 use Rattle.base.specs.Seq.{cell}
 use Rattle.base.proofs.Cases.{eq-or}
@@ -17,16 +18,15 @@ use Rattle.base.proofs.Seq.{zeros-at}
 use Rattle.base.specs.Parts.{part_of, put_block}
 use Rattle.base.proofs.Parts.{length-part_of, part_of-at, put_block-here, put_block-other, put_block-length, row_ends}
 use Rattle.params.specs.Nodes.{has, size, count, Placing}
-use Rattle.params.proofs.Sets.{same_rank, rank-inside}
-use Rattle.params.proofs.Placing.{Listed, at_node, placing-zeros}
+use Rattle.params.proofs.Sets.{same_rank, rank-inside, size-most}
+use Rattle.params.proofs.Placing.{Listed, at_node, placing-zeros, length-places}
 use Rattle.blocks.specs.Bytes.{over}
 use Rattle.blocks.proofs.Laws.{over-same}
 use Rattle.placing.specs.Placed.{BlocksIn, Puttable, PutPost, ClearPost}
 
--- the node of turn i, whose place is w: its block ends within the codeword
-pub block-ends : (set number : ℕ) (places : List ℕ) → Listed set number places → (i w : ℕ) → i < number → w ≡ get_or places i 0 → (b codeword : ℕ)
-    → BlocksIn b set codeword → w * b + b ≤ codeword
-block-ends set number places g i w turn place b codeword h = h.1 w (at_node set number places g i w turn place).0
+-- the places, listed
+pub listed : {set number : ℕ} {places : List ℕ} → set < 2 ^ 32 → number ≡ size set → Placing set (replicate 32 0) places → Listed set number places
+listed word count_is placed = record { word = word; lists = placing-zeros _ _ word placed; count_is = count_is }
 
 -- ---- put and compare, once their tests are passed
 
@@ -43,7 +43,7 @@ module _ (b set number codeword fresh : ℕ) (product : Bool) (count_is : number
       → Placing set (replicate 32 0) places → Placeable b set number places codeword fresh
   placeable left inside decided kept word places placed =
       record {
-        listed = record { word = word; lists = placing-zeros _ _ word placed; count_is = count_is };
+        listed = listed word count_is placed;
         fits =
             record {
               inside = decided.holds (not-false inside kept);
@@ -51,13 +51,28 @@ module _ (b set number codeword fresh : ℕ) (product : Bool) (count_is : number
             };
       }
 
--- both blocks of a turn end within their lists
-pub turn-ends : (b set number : ℕ) (places : List ℕ) (codeword fresh : ℕ) → Placeable b set number places codeword fresh → (i w : ℕ) → i < number
-    → w ≡ get_or places i 0 → (w * b + b ≤ codeword) × (i * b + b ≤ fresh)
-turn-ends b set number places codeword fresh k i w turn place = (
-  block-ends set number places k.listed i w turn place b codeword k.fits.inside,
-  row_ends (size set) i b fresh (omega (arith, k.listed.count_is)) (omega (arith, k.fits.room)),
-)
+-- Turn i: the node with place w, and fresh's block for it.
+pub record Turn (b set number codeword : ℕ) (fresh : List ℕ) (i w : ℕ) (block : List ℕ) : Type 0 where
+  pub places : List ℕ
+  pub fit : Placeable b set number places codeword (length fresh)
+  pub turn : i < number
+  pub place : w ≡ get_or places i 0
+  pub is : block ≡ part_of b i fresh
+
+module _ {b set number codeword i w : ℕ} {fresh block : List ℕ} (t : Turn b set number codeword fresh i w block) where
+  -- the node is the set's, with rank i
+  pub at : (has set (suc w) ≡ true) × (count (has set) w ≡ i)
+  at = at_node set number t.places t.fit.listed i w t.turn t.place
+
+  -- its block ends within the codeword
+  pub ends : w * b + b ≤ codeword
+  ends = t.fit.fits.inside.1 w at.0
+
+  pub block_ends : i * b + b ≤ length fresh
+  block_ends = row_ends (size set) i b (length fresh) (omega (arith, t.turn, t.fit.listed.count_is)) (omega (arith, t.fit.fits.room))
+
+  pub long : length block ≡ b
+  long = ap length t.is ∙ length-part_of b i fresh block_ends
 
 -- ---- blocks written over others
 
@@ -103,50 +118,71 @@ written-more b set f t w old new part e rank held hl hf s =
 
 -- ---- put: block i of fresh over that of the node with place w
 
-module _ (b set number : ℕ) (places fresh old : List ℕ) (k : Placeable b set number places (length old) (length fresh)) where
-  pub put-turn : (new : List ℕ) (i w : ℕ) → i < number → w ≡ get_or places i 0 → Written b set (cell b fresh) i old new → (part : List ℕ)
-      → part ≡ over (part_of b w new) (part_of b i fresh) → Written b set (cell b fresh) (i + 1) old (put_block b w new part)
-  put-turn new i w turn place s part e =
-      let at = at_node set number places k.listed i w turn place in
-      let both = turn-ends b set number places (length old) (length fresh) k i w turn place in
-      let ends : w * b + b ≤ length new = omega (arith, both.0, s.same) in
-      let lf : length (part_of b i fresh) ≡ b = length-part_of b i fresh both.1 in
-      let whole : part ≡ part_of b i fresh = e ∙ over-same _ _ (lf ∙ sym (length-part_of b w new ends)) in
-      written-more b set (cell b fresh) i w old new part at.0 at.1 ends (ap length whole ∙ lf)
-      (λ p hp. ap (λ (l : List ℕ). get_or l p 0) whole ∙ part_of-at b i fresh p hp) s
+pub put-turn : {b set number i w : ℕ} {fresh old new block part : List ℕ} → Turn b set number (length old) fresh i w block
+    → Written b set (cell b fresh) i old new → part ≡ over (part_of b w new) block → Written b set (cell b fresh) (i + 1) old (put_block b w new part)
+put-turn {b} {set} {number} {i} {w} {fresh} {old} {new} {block} {part} t s e =
+    let held : w * b + b ≤ length new = omega (arith, ends t, s.same) in
+    let whole : part ≡ block = e ∙ over-same _ _ (long t ∙ sym (length-part_of b w new held)) in
+    written-more b set (cell b fresh) i w old new part (at t).0 (at t).1 held (ap length whole ∙ long t)
+    (λ p hp. ap (λ (l : List ℕ). get_or l p 0) (whole ∙ t.is) ∙ part_of-at b i fresh p hp) s
 
-  pub put-done : (new : List ℕ) (t : ℕ) → number ≤ t → Written b set (cell b fresh) t old new → PutPost b set fresh old new
-  put-done new t all s =
-      record {
-        same = s.same;
-        put = λ ok. written_all b set (cell b fresh) t old new k.listed.word (omega (arith, k.listed.count_is)) s;
-        others = s.others;
-        kept = λ none. absurd (none k.fits);
-      }
+pub put-done : {b set number t : ℕ} {fresh places old new : List ℕ} → Placeable b set number places (length old) (length fresh) → number ≤ t
+    → Written b set (cell b fresh) t old new → PutPost b set fresh old new
+put-done {b} {set} {t = t} {fresh} {old = old} {new} k all s =
+    record {
+      same = s.same;
+      put = λ ok. written_all b set (cell b fresh) t old new k.listed.word (omega (arith, k.listed.count_is)) s;
+      others = s.others;
+      kept = λ none. absurd (none k.fits);
+    }
 
 pub put-idle : (b set : ℕ) (fresh l : List ℕ) → (Puttable b set (length l) (length fresh) → ⊥) → PutPost b set fresh l l
 put-idle b set fresh l none = record { same = refl; put = λ ok. absurd (none ok); others = λ j p e hp. refl; kept = λ _. refl }
 
 -- ---- clear: 00 over the block of the node with place w
 
-module _ (b set number : ℕ) (places old : List ℕ) (g : Listed set number places) (h : BlocksIn b set (length old)) where
-  pub clear-turn : (new : List ℕ) (i w : ℕ) → i < number → w ≡ get_or places i 0 → Written b set (λ r p. 0) i old new → (part : List ℕ)
-      → part ≡ replicate (length (part_of b w new)) 0 → Written b set (λ r p. 0) (i + 1) old (put_block b w new part)
-  clear-turn new i w turn place s part e =
-      let at = at_node set number places g i w turn place in
-      let ends : w * b + b ≤ length new = omega (arith, block-ends set number places g i w turn place b (length old) h, s.same) in
-      written-more b set (λ r p. 0) i w old new part at.0 at.1 ends
-      (ap length e ∙ length-replicate {A = ℕ} (length (part_of b w new)) 0 ∙ length-part_of b w new ends)
-      (λ p hp. ap (λ (l : List ℕ). get_or l p 0) e ∙ zeros-at (length (part_of b w new)) p) s
+-- once the test is passed: the places of the set's nodes, and the codeword has the nodes' blocks
+pub record Clearing (b set number codeword : ℕ) (items : List ℕ) : Type 0 where
+  pub places : List ℕ
+  pub listed : Listed set number places
+  pub items_are : items ≡ take number places
+  pub inside : BlocksIn b set codeword
 
-  pub clear-done : (new : List ℕ) (t : ℕ) → number ≤ t → Written b set (λ r p. 0) t old new → ClearPost b set old new
-  clear-done new t all s =
-      record {
-        same = s.same;
-        cleared = λ ok. written_all b set (λ r p. 0) t old new g.word (omega (arith, g.count_is)) s;
-        others = s.others;
-        kept = λ none. absurd (none h);
-      }
+-- there are 32 places, and the set has no more nodes
+pub places-most : {set number : ℕ} {places : List ℕ} → Listed set number places → number ≤ length places
+places-most {set} g = omega (arith, g.count_is, size-most set g.word, ap length g.lists, length-places set)
+
+module _ {b set number codeword : ℕ} {items : List ℕ} (g : Clearing b set number codeword items) where
+  pub one_each : length items ≡ number
+  one_each = ap length g.items_are ∙ length-take-le number g.places (places-most g.listed)
+
+  -- the node of turn i, whose place is w, is the set's, with rank i
+  pub cleared_at : {i w : ℕ} → i < number → w ≡ get_or items i 0 → (has set (suc w) ≡ true) × (count (has set) w ≡ i)
+  cleared_at {i} {w} turn place =
+      at_node set number g.places g.listed i w turn (place ∙ ap (λ (l : List ℕ). get_or l i 0) g.items_are ∙ get_or-take number g.places i 0 turn)
+
+  -- its block ends within the codeword
+  pub cleared_ends : {i w : ℕ} → i < number → w ≡ get_or items i 0 → w * b + b ≤ codeword
+  cleared_ends {w = w} turn place = g.inside.1 w (cleared_at turn place).0
+
+pub clear-turn : {b set number i w : ℕ} {items old new part : List ℕ} → Clearing b set number (length old) items → i < number → w ≡ get_or items i 0
+    → Written b set (λ r p. 0) i old new → part ≡ replicate (length (part_of b w new)) 0 → Written b set (λ r p. 0) (i + 1) old (put_block b w new part)
+clear-turn {b} {set} {i = i} {w} {old = old} {new} {part} g turn place s e =
+    let at = cleared_at g turn place in
+    let held : w * b + b ≤ length new = omega (arith, cleared_ends g turn place, s.same) in
+    written-more b set (λ r p. 0) i w old new part at.0 at.1 held
+    (ap length e ∙ length-replicate {A = ℕ} (length (part_of b w new)) 0 ∙ length-part_of b w new held)
+    (λ p hp. ap (λ (l : List ℕ). get_or l p 0) e ∙ zeros-at (length (part_of b w new)) p) s
+
+pub clear-done : {b set number t : ℕ} {items old new : List ℕ} → Clearing b set number (length old) items → number ≤ t
+    → Written b set (λ r p. 0) t old new → ClearPost b set old new
+clear-done {b} {set} {t = t} {old = old} {new} g all s =
+    record {
+      same = s.same;
+      cleared = λ ok. written_all b set (λ r p. 0) t old new g.listed.word (omega (arith, g.listed.count_is)) s;
+      others = s.others;
+      kept = λ none. absurd (none g.inside);
+    }
 
 pub clear-idle : (b set : ℕ) (l : List ℕ) → (BlocksIn b set (length l) → ⊥) → ClearPost b set l l
 clear-idle b set l none = record { same = refl; cleared = λ ok. absurd (none ok); others = λ j p e hp. refl; kept = λ _. refl }

@@ -1,7 +1,8 @@
 -- What is done to the blocks of a set's nodes: block j is that of node suc j, and byte p of it cell j p. Assumes nothing.
-use Rattle.std.specs.Prelude.{◌≡◌, true, false, List, ℕ, suc, ◌+◌, ◌*◌, ◌≤◌, ◌<◌, length}
+use Rattle.std.specs.Prelude.{◌≡◌, true, false, List, ℕ, suc, ◌+◌, ◌*◌, ◌≤◌, ◌<◌, length, Option, Some, None}
 use Rattle.base.specs.Seq.{cell}
 use Rattle.params.specs.Nodes.{has, size, count}
+use Rattle.params.specs.declared.Node.{Node}
 
 -- blocks are not empty, and a list of that length has the block of each of the set's nodes
 abbrev pub BlocksIn : ℕ → ℕ → ℕ → Type 0
@@ -30,9 +31,16 @@ pub record ClearPost (b set : ℕ) (old new : List ℕ) : Type 0 where
 abbrev pub Alike : ℕ → ℕ → List ℕ → List ℕ → ℕ → Type 0
 Alike b set codeword fresh j = (p : ℕ) → p < b → cell b fresh (count (has set) j) p ≡ cell b codeword j p
 
--- The answer is the set's lowest node whose block is not fresh's; 0 where there is none, and where the lengths do not fit.
-pub record ComparePost (b set : ℕ) (codeword fresh : List ℕ) (answer : ℕ) : Type 0 where
-  pub equal : Puttable b set (length codeword) (length fresh) → answer ≡ 0 → (j : ℕ) → has set (suc j) ≡ true → Alike b set codeword fresh j
-  pub lowest : (j : ℕ) → answer ≡ suc j
-      → (has set (suc j) ≡ true) × (Alike b set codeword fresh j → ⊥) × ((i : ℕ) → has set (suc i) ≡ true → i < j → Alike b set codeword fresh i)
-  pub none : (Puttable b set (length codeword) (length fresh) → ⊥) → answer ≡ 0
+-- node suc j is the set's lowest whose block is not fresh's
+pub record Other (b set : ℕ) (codeword fresh : List ℕ) (node : Node) : Type 0 where
+  pub j : ℕ
+  pub is : node.0 ≡ suc j
+  pub inside : has set (suc j) ≡ true
+  pub unlike : Alike b set codeword fresh j → ⊥
+  pub lower : (i : ℕ) → has set (suc i) ≡ true → i < j → Alike b set codeword fresh i
+
+-- The answer is the set's lowest node whose block is not fresh's. There is none where all are alike, and where the lengths do not fit.
+abbrev pub ComparePost : ℕ → ℕ → List ℕ → List ℕ → Option Node → Type 0
+ComparePost b set codeword fresh (Some node) = Puttable b set (length codeword) (length fresh) × Other b set codeword fresh node
+ComparePost b set codeword fresh None =
+    Puttable b set (length codeword) (length fresh) → (j : ℕ) → has set (suc j) ≡ true → Alike b set codeword fresh j

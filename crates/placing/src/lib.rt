@@ -4,9 +4,9 @@
 ghost use Rattle.base.specs.Decided.{Decided};
 ghost use Rattle.placing.specs.Placed.{BlocksIn, PutPost, ClearPost, ComparePost};
 
-use base::{is_product, wide};
+use base::is_product;
 use block_numbers::places_of;
-use blocks::{clear, copy_block, differs};
+use blocks::{clear, copy_block};
 use params::{Node, NodeSet};
 
 // Whether a slice of this length has the block of each of the set's nodes. It has no blocks of 0 bytes.
@@ -33,14 +33,9 @@ pub fn put_blocks(codeword: &mut [u8], set: NodeSet, fresh: &[u8], b: usize)
     }
     let mut places = [0u8; 32];
     places_of(set, &mut places);
-    let mut i = 0;
-    while i < count {
-        let at = wide(places[i]) * b;
-        let end = at + b;
-        let start = i * b;
-        let stop = start + b;
-        copy_block(&mut codeword[at..end], &fresh[start..stop]);
-        i += 1;
+    for (place, block) in places.iter().zip(fresh.chunks_exact(b)) {
+        let at = usize::from(*place) * b;
+        copy_block(&mut codeword[at..at + b], block);
     }
 }
 
@@ -54,40 +49,31 @@ pub fn clear_blocks(codeword: &mut [u8], set: NodeSet, b: usize)
     }
     let mut places = [0u8; 32];
     places_of(set, &mut places);
-    let mut i = 0;
-    while i < count {
-        let at = wide(places[i]) * b;
-        let end = at + b;
-        clear(&mut codeword[at..end]);
-        i += 1;
+    for place in &places[..count] {
+        let at = usize::from(*place) * b;
+        clear(&mut codeword[at..at + b]);
     }
 }
 
-// The set's lowest node whose block is not fresh's, which has them in rising order; node 0 where there is none. It is 0 too where codeword has no block for one
-// of the nodes, or fresh has not just one for each.
-pub fn first_other(codeword: &[u8], set: NodeSet, fresh: &[u8], b: usize) -> Node
-    ensures { ComparePost b set.0 codeword.now fresh.now result.0 }
+// The set's lowest node whose block is not fresh's, which has them in rising order. There is none where codeword has no block for one of the nodes, or fresh has
+// not just one for each.
+pub fn first_other(codeword: &[u8], set: NodeSet, fresh: &[u8], b: usize) -> Option<Node>
+    ensures { ComparePost b set.0 codeword.now fresh.now result }
 {
     let count = set.size();
     if !is_product(fresh.len(), count, b) {
-        return Node(0);
+        return None;
     }
     if !has_blocks(codeword.len(), set, b) {
-        return Node(0);
+        return None;
     }
     let mut places = [0u8; 32];
     places_of(set, &mut places);
-    let mut i = 0;
-    while i < count {
-        let place = places[i];
-        let at = wide(place) * b;
-        let end = at + b;
-        let start = i * b;
-        let stop = start + b;
-        if differs(&fresh[start..stop], &codeword[at..end]) {
-            return Node(place + 1);
+    for (place, block) in places.iter().zip(fresh.chunks_exact(b)) {
+        let at = usize::from(*place) * b;
+        if block != &codeword[at..at + b] {
+            return Some(Node(*place + 1));
         }
-        i += 1;
     }
-    Node(0)
+    None
 }

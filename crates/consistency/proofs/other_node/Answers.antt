@@ -41,7 +41,7 @@ returns c ok =
     let back : length c.recompute.new.fresh ≡ c.size.result * s.a.b = c.recompute.auto.fresh ∙ length-take-le _ _ room in
     tested s.a _ _ _ _ _ c.outside-rest.result.0 c.lowest-chosen.result.0 c.outside.result.0 _ ok exact (omega arith) (omega arith) both_word (omega arith)
     (omega arith) c.outside-rest.ensures c.lowest-chosen.ensures c.outside.ensures c.lowest-others.ensures
-    s.codeword.now (λ i. omega (arith, c.type_inv.codeword i)) _ _ _ refl
-    (length-take-le _ _ room ∙ ap (λ (m : ℕ). m * s.a.b) c.size.ensures) c.recompute.ensures
-    (subst (λ (t : List ℕ). ComparePost s.a.b c.lowest-others.result.0 s.codeword.now t c.first_other.result.0)
+    s.codeword.now (λ i. omega (arith, c.type_inv.codeword i)) _ _ refl
+    (length-take-le _ _ room ∙ ap (λ (m : ℕ). m * s.a.b) c.size.ensures) c.recompute.ensures c.first_other.result
+    (subst (λ (t : List ℕ). ComparePost s.a.b c.lowest-others.result.0 s.codeword.now t c.first_other.result)
     (buffer-front _ _ _ back) c.first_other.ensures)

@@ -1,54 +1,44 @@
-use Prim.Native.Nat.{ℕ, ◌^◌, ◌<◌}
-use mathlib.Core.Path.{◌≡◌}
-use mathlib.Core.List.{List}
+use mathlib.Core.Path.{refl, sym}
 use native.Mathlib.Omega.{arith}
-use lib.ListN.{replicate}
-use Rattle.params.specs.Nodes.{size, Placing}
-use Rattle.params.proofs.Sets.{size-most}
-use Rattle.params.proofs.Placing.{Listed, placing-zeros}
-use Rattle.placing.proofs.Turns.{block-ends, written_none, clear-turn, clear-done, clear-idle}
+use lib.Seq.{length-take-le}
+use Rattle.placing.proofs.Turns.{listed, places-most, one_each, cleared_ends, written_none, clear-turn, clear-done, clear-idle}
 use Rattle.placing.proofs.clear_blocks.Goals as goal
 
 pub returns-then-not-has_blocks : goal.returns-then-not-has_blocks
 returns-then-not-has_blocks c = clear-idle _ _ _ (λ ok. c.has_blocks.ensures.fails c.if-not-has_blocks.true ok)
 
-pub loop-i-init : goal.loop-i-init
-loop-i-init c set g h = written_none _ _ _ _
+-- the set has no more nodes than there are places
+pub slice_bounds-places-end : goal.slice_bounds-places-end
+slice_bounds-places-end c = places-most (listed (omega arith) c.size-count.ensures c.places_of.ensures)
 
--- the places, listed
-listed : (set number : ℕ) (places : List ℕ) → set < 2 ^ 32 → number ≡ size set → Placing set (replicate 32 0) places → Listed set number places
-listed set number places word count_is placed = record { word = word; lists = placing-zeros _ _ word placed; count_is = count_is }
+pub slice_bounds-place-items-end : goal.slice_bounds-place-items-end
+slice_bounds-place-items-end c = sym (length-take-le _ _ (places-most (listed (omega arith) c.size-count.ensures c.places_of.ensures)))
 
-pub bounds-places-i : goal.bounds-places-i
-bounds-places-i c =
-    let g = listed c.args.set.0 _ _ (omega arith) c.size-count.ensures c.places_of.ensures in
-    omega (arith, size-most _ g.word, g.count_is)
+pub loop-place-init : goal.loop-place-init
+loop-place-init c = (
+  record {
+    places = c.places_of.new.out;
+    listed = listed (omega arith) c.size-count.ensures c.places_of.ensures;
+    items_are = refl;
+    inside = c.has_blocks.ensures.holds c.if-not-has_blocks.false;
+  },
+  written_none _ _ _ _,
+)
 
 -- the node's block ends within the codeword
 pub overflow_mul-at : goal.overflow_mul-at
-overflow_mul-at c =
-    let g = listed c.args.set.0 _ _ (omega arith) c.size-count.ensures c.places_of.ensures in
-    let fits = c.has_blocks.ensures.holds c.if-not-has_blocks.false in
-    omega (arith, block-ends _ _ _ g _ _ (omega arith) c.wide.ensures _ _ fits)
+overflow_mul-at c = let g = c.loop-place.invariant.0 in omega (arith, cleared_ends g (omega (arith, one_each g)) c.from.ensures)
 
-pub overflow_add-end : goal.overflow_add-end
-overflow_add-end c =
-    let g = listed c.args.set.0 _ _ (omega arith) c.size-count.ensures c.places_of.ensures in
-    let fits = c.has_blocks.ensures.holds c.if-not-has_blocks.false in
-    omega (arith, block-ends _ _ _ g _ _ (omega arith) c.wide.ensures _ _ fits)
+pub overflow_add-at : goal.overflow_add-at
+overflow_add-at c = let g = c.loop-place.invariant.0 in omega (arith, cleared_ends g (omega (arith, one_each g)) c.from.ensures)
 
 pub slice_bounds-clear-end : goal.slice_bounds-clear-end
 slice_bounds-clear-end c =
-    let g = listed c.args.set.0 _ _ (omega arith) c.size-count.ensures c.places_of.ensures in
-    let fits = c.has_blocks.ensures.holds c.if-not-has_blocks.false in
-    omega (arith, block-ends _ _ _ g _ _ (omega arith) c.wide.ensures _ _ fits, (c.loop-i.invariant _ g fits).same)
+    let g = c.loop-place.invariant.0 in omega (arith, cleared_ends g (omega (arith, one_each g)) c.from.ensures, c.loop-place.invariant.1.same)
 
-pub loop-i-preserved : goal.loop-i-preserved
-loop-i-preserved c set g h =
-    clear-turn _ set _ _ _ g h _ c.loop-i.i c.wide.result (omega arith) c.wide.ensures (c.loop-i.invariant set g h) _ c.clear.ensures
+pub loop-place-preserved : goal.loop-place-preserved
+loop-place-preserved c =
+    let g = c.loop-place.invariant.0 in (g, clear-turn g (omega (arith, one_each g)) c.from.ensures c.loop-place.invariant.1 c.clear.ensures)
 
 pub returns : goal.returns
-returns c =
-    let g = listed c.args.set.0 _ _ (omega arith) c.size-count.ensures c.places_of.ensures in
-    let fits = c.has_blocks.ensures.holds c.if-not-has_blocks.false in
-    clear-done _ _ _ _ _ g fits _ c.loop-i.i (omega arith) (c.loop-i.invariant _ g fits)
+returns c = let g = c.loop-place.invariant.0 in clear-done g (omega (arith, one_each g)) c.loop-place.invariant.1

@@ -1,13 +1,11 @@
--- The first i nodes' blocks are fresh's; the answer is the first node where they are not. Assumes nothing.
-use Prim.Native.Nat.{ℕ, ◌-◌}
+-- After so many turns the first nodes' blocks are fresh's. Assumes nothing.
+use Prim.Native.Nat.{ℕ}
 use lib.ListN.{length}
-use Rattle.placing.proofs.Turns.{Placeable}
+use Rattle.placing.proofs.Walk.{Going}
 use Rattle.placing.proofs.Comparing.{Passed}
 use Rattle.placing.proofs.first_other.Given as goal
 
-abbrev pub invariant-loop-i : goal.invariant-loop-i
-invariant-loop-i l =
-    ((set : ℕ) → Placeable l.b set l.count l.places (length l.codeword) (length l.fresh) → Passed l.b set l.codeword l.fresh l.i)
-
-abbrev pub decreases-loop-i : goal.decreases-loop-i
-decreases-loop-i l = l.count - l.i
+abbrev pub invariant-loop-place : goal.invariant-loop-place
+invariant-loop-place l =
+    (goal.iterator-loop-place).can_next l.place-iterator × (goal.iterator-loop-place).is_finite l.place-iterator
+    × ((i : ℕ) × Going l.b l.fn.set.0 l.count (length l.codeword) l.fresh i l.place-iterator × Passed l.b l.fn.set.0 l.codeword l.fresh i)

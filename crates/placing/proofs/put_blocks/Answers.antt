@@ -1,8 +1,9 @@
 use mathlib.Core.Path.{ap}
 use mathlib.Core.Bool.{not}
+use Prim.Native.Nat.{◌+◌}
 use native.Mathlib.Omega.{arith}
-use Rattle.params.proofs.Sets.{size-most}
-use Rattle.placing.proofs.Turns.{no_room, placeable, turn-ends, written_none, put-turn, put-done, put-idle}
+use Rattle.placing.proofs.Turns.{no_room, placeable, ends, written_none, put-turn, put-done, put-idle}
+use Rattle.placing.proofs.Walk.{going, some_bytes, turned, go_on, ended}
 use Rattle.placing.proofs.put_blocks.Goals as goal
 
 pub returns-then-not-is_product : goal.returns-then-not-is_product
@@ -11,59 +12,35 @@ returns-then-not-is_product c = put-idle _ _ _ _ (no_room _ _ _ _ _ _ c.size-cou
 pub returns-then-not-has_blocks : goal.returns-then-not-has_blocks
 returns-then-not-has_blocks c = put-idle _ _ _ _ (λ ok. c.has_blocks.ensures.fails c.if-not-has_blocks.true ok.inside)
 
-pub loop-i-init : goal.loop-i-init
-loop-i-init c set k = written_none _ _ _ _
-
--- the places are listed, and the lengths fit
-pub bounds-places-i : goal.bounds-places-i
-bounds-places-i c =
+pub loop-place-init : goal.loop-place-init
+loop-place-init c =
     let k = placeable _ c.args.set.0 _ _ _ _ c.size-count.ensures c.is_product.ensures (ap not c.if-not-is_product.false) _ c.has_blocks.ensures
     (ap not c.if-not-has_blocks.false) (omega arith) _ c.places_of.ensures in
-    omega (arith, size-most _ k.listed.word, k.listed.count_is)
+    let g =
+    going k c.into_iter-place-iterator.ensures.into_iter_gives c.zip-place-items.ensures.first c.zip-place-items.ensures.second c.iter.ensures.rest
+    c.chunks_exact.ensures.rest c.chunks_exact.ensures.size in
+    ((tt, some_bytes g), tt, (0, g, written_none _ _ _ _))
 
--- the two blocks end within their lists
+-- the node's block ends within the codeword
 pub overflow_mul-at : goal.overflow_mul-at
 overflow_mul-at c =
-    let k = placeable _ c.args.set.0 _ _ _ _ c.size-count.ensures c.is_product.ensures (ap not c.if-not-is_product.false) _ c.has_blocks.ensures
-    (ap not c.if-not-has_blocks.false) (omega arith) _ c.places_of.ensures in
-    omega (arith, (turn-ends _ _ _ _ _ _ k c.loop-i.i _ (omega arith) c.wide.ensures).0)
+    omega (arith, ends (turned c.loop-place.invariant.2.1 (c.in-Some.place, c.in-Some.block) c.next.new.self c.in-Some.ensures.steps c.from.ensures))
 
-pub overflow_add-end : goal.overflow_add-end
-overflow_add-end c =
-    let k = placeable _ c.args.set.0 _ _ _ _ c.size-count.ensures c.is_product.ensures (ap not c.if-not-is_product.false) _ c.has_blocks.ensures
-    (ap not c.if-not-has_blocks.false) (omega arith) _ c.places_of.ensures in
-    omega (arith, (turn-ends _ _ _ _ _ _ k c.loop-i.i _ (omega arith) c.wide.ensures).0)
-
-pub overflow_mul-start : goal.overflow_mul-start
-overflow_mul-start c =
-    let k = placeable _ c.args.set.0 _ _ _ _ c.size-count.ensures c.is_product.ensures (ap not c.if-not-is_product.false) _ c.has_blocks.ensures
-    (ap not c.if-not-has_blocks.false) (omega arith) _ c.places_of.ensures in
-    omega (arith, (turn-ends _ _ _ _ _ _ k c.loop-i.i _ (omega arith) c.wide.ensures).1)
-
-pub overflow_add-stop : goal.overflow_add-stop
-overflow_add-stop c =
-    let k = placeable _ c.args.set.0 _ _ _ _ c.size-count.ensures c.is_product.ensures (ap not c.if-not-is_product.false) _ c.has_blocks.ensures
-    (ap not c.if-not-has_blocks.false) (omega arith) _ c.places_of.ensures in
-    omega (arith, (turn-ends _ _ _ _ _ _ k c.loop-i.i _ (omega arith) c.wide.ensures).1)
+pub overflow_add-at : goal.overflow_add-at
+overflow_add-at c =
+    omega (arith, ends (turned c.loop-place.invariant.2.1 (c.in-Some.place, c.in-Some.block) c.next.new.self c.in-Some.ensures.steps c.from.ensures))
 
 pub slice_bounds-copy_block-end : goal.slice_bounds-copy_block-end
 slice_bounds-copy_block-end c =
-    let k = placeable _ c.args.set.0 _ _ _ _ c.size-count.ensures c.is_product.ensures (ap not c.if-not-is_product.false) _ c.has_blocks.ensures
-    (ap not c.if-not-has_blocks.false) (omega arith) _ c.places_of.ensures in
-    omega (arith, (turn-ends _ _ _ _ _ _ k c.loop-i.i _ (omega arith) c.wide.ensures).0, (c.loop-i.invariant _ k).same)
+    let t = turned c.loop-place.invariant.2.1 (c.in-Some.place, c.in-Some.block) c.next.new.self c.in-Some.ensures.steps c.from.ensures in
+    omega (arith, ends t, c.loop-place.auto.codeword)
 
-pub slice_bounds-copy_block-end-in-loop-i : goal.slice_bounds-copy_block-end-in-loop-i
-slice_bounds-copy_block-end-in-loop-i c =
-    let k = placeable _ c.args.set.0 _ _ _ _ c.size-count.ensures c.is_product.ensures (ap not c.if-not-is_product.false) _ c.has_blocks.ensures
-    (ap not c.if-not-has_blocks.false) (omega arith) _ c.places_of.ensures in
-    (turn-ends _ _ _ _ _ _ k c.loop-i.i _ (omega arith) c.wide.ensures).1
-
-pub loop-i-preserved : goal.loop-i-preserved
-loop-i-preserved c set k =
-    put-turn _ set _ _ _ _ k _ c.loop-i.i c.wide.result (omega arith) c.wide.ensures (c.loop-i.invariant set k) _ c.copy_block.ensures
+pub loop-place-preserved : goal.loop-place-preserved
+loop-place-preserved c =
+    let l = c.loop-place.invariant.2 in
+    let t = turned l.1 (c.in-Some.place, c.in-Some.block) c.next.new.self c.in-Some.ensures.steps c.from.ensures in
+    let g = go_on l.1 (c.in-Some.place, c.in-Some.block) c.next.new.self c.in-Some.ensures.steps in
+    ((tt, some_bytes g), tt, (l.0 + 1, g, put-turn t l.2 c.copy_block.ensures))
 
 pub returns : goal.returns
-returns c =
-    let k = placeable _ c.args.set.0 _ _ _ _ c.size-count.ensures c.is_product.ensures (ap not c.if-not-is_product.false) _ c.has_blocks.ensures
-    (ap not c.if-not-has_blocks.false) (omega arith) _ c.places_of.ensures in
-    put-done _ _ _ _ _ _ k _ c.loop-i.i (omega arith) (c.loop-i.invariant _ k)
+returns c = let l = c.loop-place.invariant.2 in put-done l.1.fit (ended l.1 c.next.new.self c.in-None.ensures.steps) l.2

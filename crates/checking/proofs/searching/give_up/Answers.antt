@@ -26,7 +26,7 @@ overflow_sub-distance c =
       arith,
       c.size-2.ensures,
       c.size.ensures,
-      long c.args.a _ _ _ c.requires.valid exact c.outside.ensures c.outside-set.ensures,
+      long c.args.a _ _ _ c.requires.valid exact c.outside.ensures c.outside-behind.ensures,
       c.requires.few,
     )
 
@@ -34,14 +34,14 @@ pub returns : goal.returns
 returns c =
     let exact = working-known c.args.a c.requires.valid _ c.working.ensures in
     record {
-      set_is = behind c.args.a _ _ _ c.requires.valid exact c.outside.ensures c.outside-set.ensures;
+      set_is = behind c.args.a _ _ _ c.requires.valid exact c.outside.ensures c.outside-behind.ensures;
       tried_is = refl;
       distance_is =
           omega (
             arith,
             c.size-2.ensures,
             c.size.ensures,
-            long c.args.a _ _ _ c.requires.valid exact c.outside.ensures c.outside-set.ensures,
+            long c.args.a _ _ _ c.requires.valid exact c.outside.ensures c.outside-behind.ensures,
             c.requires.few,
           );
     }
