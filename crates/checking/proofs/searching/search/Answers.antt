@@ -20,7 +20,7 @@ returns-in_default c =
 pub loop-tried-init : goal.loop-tried-init
 loop-tried-init c =
     let told : Probed c.args.a c.args.codeword.now c.match-place_of.probes = elim c.match-place_of.branch [
-      in-Some-place_of w ↦ subst⁻¹ (Probed c.args.a c.args.codeword.now) w.probes-is (w.add.ensures (c.new-probes.ensures _ _))
+      | in-Some-place_of w ↦ subst⁻¹ (Probed c.args.a c.args.codeword.now) w.probes-is (w.add.ensures (c.new-probes.ensures _ _))
       | in_default-place_of w ↦ subst⁻¹ (Probed c.args.a c.args.codeword.now) w.probes-is (c.new-probes.ensures _ _)
     ] in
     search-next (search-start c.requires told) (λ j. omega (arith, c.type_inv.codeword j)) (omega arith)
