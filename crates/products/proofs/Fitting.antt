@@ -1,13 +1,15 @@
 -- Each answer of the tests on lengths decides what it is to decide: a quotient takes the place of a product that could overflow. Assumes nothing.
-use mathlib.Core.Path.{◌≡◌, ap, ◌∙◌}
-use mathlib.Core.Bool.{Bool, true, false}
+use mathlib.Core.Path.{◌≡◌, refl, ap, ◌∙◌}
+use mathlib.Core.Bool.{Bool, true, false, false≢true}
 use mathlib.Core.List.{List}
 use Prim.Native.Nat.{ℕ, ◌-◌, ◌*◌, ◌/◌, ◌≤◌, ◌<◌}
 use native.Mathlib.Nat.{mul-zero, mul-le-mul_right, le-div_iff_mul-le}
 use native.Mathlib.Omega.{arith}
 use borrow.Author.Tests.{leb-true, leb-false}
 use lib.Dec.{leb}
-use lib.ListN.{length, get_or}
+use lib.ListN.{length}
+use Rattle.std.specs.Prelude.{◌↔◌, All, IsTrue}
+use Rattle.std.proofs.lemmas.List.Elements.{All-get_or, All-from_get_or}
 use Rattle.base.specs.Decided.{Decided}
 use Rattle.base.proofs.Decisions.{decided-true, decided-false}
 use Rattle.products.specs.Blocks.{Rows, Inside, Fits}
@@ -38,12 +40,10 @@ module _ (rows width stride coeffs : ℕ) where
 
 -- ---- places
 
-module _ (b : ℕ) (places : List ℕ) (src : ℕ) (hb : 0 < b) where
-  pub outside : (j : ℕ) → j < length places → src / b ≤ get_or places j 0 → Decided (Inside b places src) false
-  outside j hj le = decided-false _ (λ f. omega (arith, (le-div_iff_mul-le hb).1 (f j hj)))
-
-  pub inside : ((j : ℕ) → j < length places → get_or places j 0 < src / b) → Decided (Inside b places src) true
-  inside f = decided-true _ (λ j h. (le-div_iff_mul-le hb).0 (f j h))
+-- as the code asks of each of them whether it is below the number of blocks
+pub places-below : (b : ℕ) (places : List ℕ) (src : ℕ) → 0 < b → (t : Bool) → IsTrue t ↔ All (λ p. p < src / b) places → Decided (Inside b places src) t
+places-below b places src hb true f = decided-true _ (λ j h. (le-div_iff_mul-le hb).0 (All-get_or (λ p. p < src / b) places j 0 h (f.0 refl)))
+places-below b places src hb false f = decided-false _ (λ g. false≢true (f.1 (All-from_get_or (λ p. p < src / b) places 0 (λ j h. (le-div_iff_mul-le hb).1 (g j h)))))
 
 -- ---- all together
 

@@ -5,7 +5,6 @@ ghost use Rattle.std.specs.Prelude.{◌≡◌, ◌+◌, ◌≤◌, ◌<◌, leng
 ghost use Rattle.base.specs.Decided.{Decided};
 ghost use Rattle.products.specs.Blocks.{Rows, Inside, Fits, Added, plus_multiple, Accumulated};
 
-use base::{shorter, wide};
 use field::times;
 use words::add_words;
 
@@ -33,15 +32,12 @@ pub fn add_rows(
     ) {
         return;
     }
-    let width = places.len();
-    let mut i = 0;
-    while i < targets.len() {
-        let at = wide(targets[i]) * b;
+    for (i, target) in targets.iter().enumerate() {
+        let at = usize::from(*target) * b;
         let end = at + b;
         let row = i * stride;
-        let stop = row + width;
+        let stop = row + places.len();
         accumulate(&mut out[at..end], src, places, &coeffs[row..stop]);
-        i += 1;
     }
 }
 
@@ -53,11 +49,9 @@ fn accumulate(dst: &mut [u8], src: &[u8], places: &[u8], coeffs: &[u8])
     ensures { Accumulated (length dst.old) 0 src.now places.now coeffs.now dst.old dst.new }
 {
     let b = dst.len();
-    let mut at = 0;
-    while at < b {
-        let end = at + shorter(256, b - at);
+    for at in (0..b).step_by(256) {
+        let end = at + (b - at).min(256);
         add_stretch(&mut dst[at..end], b, at, src, places, coeffs);
-        at = end;
     }
 }
 
@@ -81,14 +75,10 @@ fn add_columns(sum: &mut [u8], b: usize, at: usize, src: &[u8], places: &[u8], c
     requires sum_bound { at + length sum.old ≤ b }
     ensures { Accumulated b at src.now places.now coeffs.now sum.old sum.new }
 {
-    let w = sum.len();
-    let count = places.len();
-    let mut j = 0;
-    while j < count {
-        let start = wide(places[j]) * b + at;
-        let end = start + w;
-        add_multiple(sum, &src[start..end], coeffs[j]);
-        j += 1;
+    for (place, c) in places.iter().zip(coeffs) {
+        let start = usize::from(*place) * b + at;
+        let end = start + sum.len();
+        add_multiple(sum, &src[start..end], *c);
     }
 }
 
@@ -97,11 +87,8 @@ fn add_multiple(dst: &mut [u8], src: &[u8], c: u8)
     requires { length dst.old ≡ length src.now }
     ensures { dst.new ≡ plus_multiple dst.old c src.now }
 {
-    let count = dst.len();
-    let mut p = 0;
-    while p < count {
-        dst[p] = dst[p] ^ times(c, src[p]);
-        p += 1;
+    for (p, byte) in dst.iter_mut().enumerate() {
+        *byte ^= times(c, src[p]);
     }
 }
 
@@ -151,12 +138,5 @@ fn places_fit(b: usize, places: &[u8], src: usize) -> bool
     ensures { Decided (Inside b places.now src) result }
 {
     let count = src / b;
-    let mut j = 0;
-    while j < places.len() {
-        if wide(places[j]) >= count {
-            return false;
-        }
-        j += 1;
-    }
-    true
+    places.iter().all(|place| usize::from(*place) < count)
 }
