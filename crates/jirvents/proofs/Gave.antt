@@ -1,5 +1,5 @@
 -- What each answer of check, view and the inverse gives beside its number. Assumes nothing.
-use mathlib.Core.Path.{◌≡◌, refl, sym, ap, ◌∙◌, subst}
+use mathlib.Core.Path.{◌≡◌, refl, sym, ◌∙◌}
 use mathlib.Core.List.{List}
 use Prim.Native.Nat.{ℕ, ◌-◌, ◌*◌, ◌≤◌}
 use native.Mathlib.Nat.{le_trans, mul-le-mul}
@@ -8,13 +8,10 @@ use lib.ListN.{length}
 use Rattle.gates.specs.Gates.{view_gate}
 use Rattle.gates.specs.Valid.{ViewAccepted}
 use Rattle.params.specs.declared.Params.{Params}
-use Rattle.matrix.specs.Invert.{InvertPost, number, column_number, Proper}
-use Rattle.matrix.specs.declared.Inversion.{Inversion}
-use Rattle.matrix.specs.declared.Inversion.TheVariants as inversion
 use Rattle.code.specs.Calls.{CheckPost}
 use Rattle.code.specs.declared.Blame.{Blame}
 use Rattle.code.specs.declared.Verdict.TheVariants.{Refused, Blamed}
-use Rattle.jirvents.specs.Exports.{CheckGave, ViewGave, InvertGave}
+use Rattle.jirvents.specs.Exports.{CheckGave, ViewGave}
 
 pub check-refused : (a : Params) (codeword : List ℕ) (budget set tried distance q : ℕ) → CheckPost a codeword budget (Refused q)
     → CheckGave a codeword budget set tried distance q set tried distance
@@ -23,39 +20,6 @@ check-refused a codeword budget set tried distance q post = record { verdict = R
 pub check-blamed : (a : Params) (codeword : List ℕ) (budget set tried distance : ℕ) (blame : Blame) → CheckPost a codeword budget (Blamed blame)
     → CheckGave a codeword budget set tried distance 0 blame.set.0 blame.tried blame.distance
 check-blamed a codeword budget set tried distance blame post = record { verdict = Blamed blame; post = post; answers = refl; wrote = (refl, refl, refl) }
-
-pub invert-inverted : (s : ℕ) (m old new : List ℕ) (column : ℕ) (answer : Inversion) → answer ≡ inversion.Inverted → InvertPost s m old answer new
-    → InvertGave s m old new column 0 column
-invert-inverted s m old new column answer e post =
-    record {
-      inversion = answer;
-      post = post;
-      answers = sym (ap number e);
-      column = λ z. absurd (omega (arith, z));
-      none = λ _. refl;
-    }
-
-pub invert-singular : (s : ℕ) (m old new : List ℕ) (column found : ℕ) (answer : Inversion) → answer ≡ inversion.Singular found
-    → InvertPost s m old answer new → InvertGave s m old new column 15 found
-invert-singular s m old new column found answer e post =
-    record {
-      inversion = answer;
-      post = post;
-      answers = sym (ap number e);
-      column = λ _. sym (ap column_number e);
-      none = λ ne. absurd (ne refl);
-    }
-
-pub invert-refused : (s : ℕ) (m old new : List ℕ) (column q : ℕ) (answer : Inversion) → answer ≡ inversion.Refused q → InvertPost s m old answer new
-    → InvertGave s m old new column q column
-invert-refused s m old new column q answer e post =
-    record {
-      inversion = answer;
-      post = post;
-      answers = sym (ap number e);
-      column = λ z. absurd ((subst Proper e post.proper).1 z);
-      none = λ _. refl;
-    }
 
 pub view-refused : (a : Params) (codeword : List ℕ) (i old answer : ℕ) → answer ≡ view_gate a (length codeword) i → (answer ≡ 0 → ⊥)
     → ViewGave a codeword i old answer old

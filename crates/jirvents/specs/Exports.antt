@@ -5,7 +5,7 @@ use Rattle.params.specs.declared.Params.{Params}
 use Rattle.params.specs.declared.Shape.{Shape}
 use Rattle.matrix.specs.Invert.{InvertPost, column_number}
 use Rattle.matrix.specs.Invert as matrix
-use Rattle.matrix.specs.declared.Inversion.{Inversion}
+use Rattle.matrix.specs.Inversion.{Inversion}
 use Rattle.code.specs.Calls.{CheckPost, ViewPost, number}
 use Rattle.code.specs.declared.Verdict.{Verdict}
 use Rattle.code.specs.declared.Verdict.TheVariants.{Refused, Blamed}

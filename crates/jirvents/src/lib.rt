@@ -10,7 +10,7 @@ use code::Verdict;
 use decoding::decode;
 use encoding::encode;
 use maintenance::repair;
-use matrix::{Inversion, invert};
+use matrix::{Uninvertible, invert};
 use params::{Node, NodeSet, Params, Shape};
 use reconfiguration::reconfigure;
 use updates::{delta, update};
@@ -222,13 +222,13 @@ pub extern "C" fn jirvents_invert(
 ) -> u32
     ensures { InvertGave side matrix.now out.old out.new column.old result column.new }
 {
-    let answer = invert(side, matrix, out);
-    match answer {
-        Inversion::Inverted => 0,
-        Inversion::Singular(found) => {
-            *column = found;
-            15
+    match invert(side, matrix, out) {
+        Ok(()) => 0,
+        Err(why) => {
+            if let Uninvertible::Singular(found) = why {
+                *column = found;
+            }
+            why.into()
         }
-        Inversion::Refused(number) => number,
     }
 }

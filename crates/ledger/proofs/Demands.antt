@@ -13,7 +13,7 @@ use Rattle.base.specs.Gate.{first_no}
 use Rattle.field.specs.Field.{Bytes}
 use Rattle.matrix.specs.Matrix.{Singular, FirstDependent}
 use Rattle.matrix.specs.Invert.{InvertPost, side_asked, lengths_asked, inverse_asked, number as invertNumber, column_number}
-use Rattle.matrix.specs.declared.Inversion.{Inversion}
+use Rattle.matrix.specs.Inversion.{Inversion}
 use Rattle.matrix.proofs.Existence.{invert-met}
 use Rattle.matrix.proofs.Settled.{invert-once, singular-exactly, column-exactly}
 use Rattle.params.specs.Nodes.{has, size, within}

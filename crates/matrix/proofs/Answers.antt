@@ -2,16 +2,23 @@
 use mathlib.Core.Path.{◌≡◌, refl, sym, ◌∙◌, subst}
 use mathlib.Core.Bool.{true, false, ◌&&◌}
 use mathlib.Core.List.{List, [], ◌∷◌}
-use Prim.Native.Nat.{ℕ, ◌*◌, ◌≤◌}
+use Prim.Native.Nat.{ℕ, ◌+◌, ◌*◌, ◌≤◌, ◌<◌}
 use native.Mathlib.Omega.{arith}
 use lib.Dec.{T, leb, eqb}
 use lib.ListN.{length}
 use borrow.Author.Tests.{le-leb, eq-eqb}
 use Rattle.base.specs.Gate.{Question, first_no}
-use Rattle.matrix.specs.Matrix.{IsInverse, FirstDependent}
+use Rattle.std.specs.Prelude.{Err}
+use Rattle.field.specs.Field.{IsByte, Bytes}
+use Rattle.matrix.specs.Matrix.{entry, IsInverse, FirstDependent}
+use Rattle.matrix.specs.Working.{grid, Loaded, Reduced, StuckAt, Ended}
+use Rattle.matrix.specs.Uninvertible.{inversion}
+use Rattle.matrix.specs.declared.Uninvertible.{Uninvertible}
+use Rattle.matrix.specs.declared.Uninvertible.TheVariants.{Side, Lengths, Singular}
 use Rattle.matrix.specs.Invert.{side_asked, lengths_asked, inverse_asked, InvertPost}
-use Rattle.matrix.specs.declared.Inversion.TheVariants.{Inverted, Singular as SingularAt, Refused}
+use Rattle.matrix.specs.Inversion.{Inverted, Singular as SingularAt, Refused}
 use Rattle.matrix.proofs.Laws.{not-singular, dependent-singular}
+use Rattle.matrix.proofs.Bridge.{dependent, inverted}
 
 -- the first two questions answered yes
 pub record Open (s : ℕ) (m old : List ℕ) : Type 0 where
@@ -79,3 +86,19 @@ module _ (s : ℕ) (m old : List ℕ) (o : Open s m old) where
         no_column = λ ne. absurd (ne refl);
         proper = tt;
       }
+
+  -- the elimination ended: what it left, and what was written of it
+  module _ (t : ℕ) (start end : List (List ℕ)) (e : t ≡ s) (loaded : Loaded s m start) where
+    pub answered-stuck : (why : Uninvertible) → Bytes m → ((i k : ℕ) → IsByte (grid end i k)) → Ended t start end (Err why)
+        → InvertPost s m old (inversion (Err why)) old
+    answered-stuck (Singular c) hm bytes (j, counted, stuck) =
+        answered-singular c (dependent s j m start end loaded (subst (λ (x : ℕ). StuckAt x j start end) e stuck) hm bytes c counted)
+    answered-stuck Side hm bytes none = absurd none
+    answered-stuck Lengths hm bytes none = absurd none
+
+    pub answered-stored : (u : ℕ) (new : List ℕ) → u ≡ t → Reduced t t start end
+        → ((i k : ℕ) → i < u → k < u → entry u new i k ≡ grid end i (u + k)) → length new ≡ s * s → Bytes new → InvertPost s m old Inverted new
+    answered-stored u new e' reduced written count known =
+        answered-inverse new
+        (inverted s m new start end loaded (subst (λ (x : ℕ). Reduced x x start end) e reduced)
+        (subst (λ (x : ℕ). (i k : ℕ) → i < x → k < x → entry x new i k ≡ grid end i (x + k)) (e' ∙ e) written) count known)

@@ -5,9 +5,8 @@ use mathlib.Core.Path.{◌≡◌, sym, ap, ap₂, ◌∙◌, subst}
 use mathlib.Core.Bool.{Bool, cond}
 use mathlib.Core.List.{List, ◌++◌}
 use mathlib.Core.Logic.{◌↔◌, ⊎_elim}
-use Prim.Native.Nat.{ℕ, ◌+◌, ◌*◌, ◌≤◌, ◌<◌}
+use Prim.Native.Nat.{ℕ, suc, ◌+◌, ◌*◌, ◌≤◌, ◌<◌}
 use native.Mathlib.Nat.{zero-lt-suc}
-use native.Mathlib.Numerals.{add-one}
 use native.Mathlib.Omega.{arith}
 use lib.Dec.{ltb}
 use lib.ListN.{length, get_or, get_or-append}
@@ -27,7 +26,7 @@ use Rattle.matrix.proofs.Identity.{unit-other, unit-sum, sum-plus-unit, unit-sum
 use Rattle.matrix.proofs.RowOperations.{against}
 use Rattle.matrix.proofs.Laws.{Relation, relation, vector-tabulate, length-column, column-at, apply-given, apply-is, apply_at}
 
-loaded-against : (s : ℕ) (m w : List ℕ) → Loaded s m w → (z : ℕ → ℕ) (i : ℕ) → i < s → IsByte (z (s + i))
+loaded-against : (s : ℕ) (m : List ℕ) (w : List (List ℕ)) → Loaded s m w → (z : ℕ → ℕ) (i : ℕ) → i < s → IsByte (z (s + i))
     → against s w i z ≡ add (sum s (λ k. mul (entry s m i k) (z k))) (z (s + i))
 loaded-against s m w loaded z i hi byte =
     sum-split s s (λ k. mul (grid w i k) (z k))
@@ -37,7 +36,7 @@ loaded-against s m w loaded z i hi byte =
     (λ k hk. ap (λ (x : ℕ). mul x (z (s + k))) (loaded.right i k hi hk))
     ∙ unit-sum s i (λ k. z (s + k)) hi byte)
 
-units-against : (s : ℕ) (w : List ℕ) → Units s s w → (z : ℕ → ℕ) (i : ℕ) → i < s → IsByte (z i)
+units-against : (s : ℕ) (w : List (List ℕ)) → Units s s w → (z : ℕ → ℕ) (i : ℕ) → i < s → IsByte (z i)
     → against s w i z ≡ add (z i) (sum s (λ k. mul (grid w i (s + k)) (z (s + k))))
 units-against s w units z i hi byte =
     sum-split s s (λ k. mul (grid w i k) (z k))
@@ -47,7 +46,7 @@ units-against s w units z i hi byte =
 
 -- ---- the end of a whole elimination
 
-module _ (s : ℕ) (m start end n : List ℕ) (loaded : Loaded s m start) (reduced : Reduced s s start end)
+module _ (s : ℕ) (m n : List ℕ) (start end : List (List ℕ)) (loaded : Loaded s m start) (reduced : Reduced s s start end)
     (written : (i k : ℕ) → i < s → k < s → entry s n i k ≡ grid end i (s + k)) where
   module _ (x y : List ℕ) (hx : Vector s x) (hy : Vector s y) where
     left : (k : ℕ) → k < s → get_or (x ++ y) k 0 ≡ get_or x k 0
@@ -86,7 +85,8 @@ module _ (s : ℕ) (m start end n : List ℕ) (loaded : Loaded s m start) (reduc
 
 -- ---- a column without a pivot
 
-module _ (s j : ℕ) (m start end : List ℕ) (loaded : Loaded s m start) (stuck : StuckAt s j start end) (hm : Bytes m) where
+module _ (s j : ℕ) (m : List ℕ) (start end : List (List ℕ)) (loaded : Loaded s m start) (stuck : StuckAt s j start end) (hm : Bytes m)
+    (bytes : (i k : ℕ) → IsByte (grid end i k)) where
   -- what stands above the missing pivot
   above : ℕ → ℕ
   above k = cond (ltb k j) (grid end k j) 0
@@ -101,7 +101,7 @@ module _ (s j : ℕ) (m start end : List ℕ) (loaded : Loaded s m start) (stuck
 
   above-byte : (k : ℕ) → IsByte (above k)
   above-byte k =
-      ⊎_elim (λ h. subst IsByte (sym (above_low k h)) (stuck.bytes (k * 64 + j))) (λ h. subst IsByte (sym (above-high k h)) (zero-lt-suc 255)) (lt-or k j)
+      ⊎_elim (λ h. subst IsByte (sym (above_low k h)) (bytes k j)) (λ h. subst IsByte (sym (above-high k h)) (zero-lt-suc 255)) (lt-or k j)
 
   above-row : (i : ℕ) → i < s → above i ≡ grid end i j
   above-row i hi = ⊎_elim (above_low i) (λ h. above-high i h ∙ sym (stuck.missing i hi h)) (lt-or i j)
@@ -120,7 +120,7 @@ module _ (s j : ℕ) (m start end : List ℕ) (loaded : Loaded s m start) (stuck
   killed =
       (stuck.reduced.same kernel).1
       (λ i hi.
-      sum-plus-unit (s + s) j (grid end i) above (omega (arith, stuck.within)) (stuck.bytes (i * 64 + j))
+      sum-plus-unit (s + s) j (grid end i) above (omega (arith, stuck.within)) (bytes i j)
       ∙ ap (λ (x : ℕ). add x (grid end i j)) (above-against i hi)
       ∙ add-self (grid end i j))
 
@@ -165,5 +165,5 @@ module _ (s j : ℕ) (m start end : List ℕ) (loaded : Loaded s m start) (stuck
           loaded-against s m start loaded r.vector h hh (r.bytes (s + h)) ∙ ap₂ add (r.taken h hh) (r.after (s + h) (omega (arith, stuck.within)))
           ∙ add-self 0
 
-  pub dependent : FirstDependent s m (j + 1)
-  dependent = record { place = j; counted = add-one j; within = stuck.within; here = here; none_before = none_before }
+  pub dependent : (c : ℕ) → c ≡ suc j → FirstDependent s m c
+  dependent c counted = record { place = j; counted = counted; within = stuck.within; here = here; none_before = none_before }

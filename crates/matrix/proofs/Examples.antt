@@ -14,7 +14,7 @@ use Rattle.field.proofs.FiniteSum.{sum_zeros}
 use Rattle.matrix.specs.Matrix.{entry, apply, column, IsInverse, Dependent, FirstDependent}
 use Rattle.matrix.specs.Invert.{InvertPost}
 use Rattle.matrix.specs.Product.{unit, identity, product}
-use Rattle.matrix.specs.declared.Inversion.TheVariants.{Inverted, Singular as SingularAt}
+use Rattle.matrix.specs.Inversion.{Inverted, Singular as SingularAt}
 use Rattle.matrix.proofs.Laws.{inverse-by-products, apply_at, column-at, zero-dependent}
 use Rattle.matrix.proofs.Answers.{answered-inverse, answered-singular}
 

@@ -25,8 +25,8 @@ use Rattle.field.proofs.FiniteSum.{sum-add, sum-byte, sum-ext, sum-mul, mul-sum}
 use Rattle.matrix.specs.Matrix.{Vector, entry, apply, column, IsInverse, Singular, Dependent, FirstDependent}
 use Rattle.matrix.specs.Invert.{InvertPost}
 use Rattle.matrix.specs.Product.{unit, identity, product}
-use Rattle.matrix.specs.declared.Inversion.{Inversion}
-use Rattle.matrix.specs.declared.Inversion.TheVariants.{Inverted, Singular as SingularAt, Refused}
+use Rattle.matrix.specs.Inversion.{Inversion}
+use Rattle.matrix.specs.Inversion.{Inverted, Singular as SingularAt, Refused}
 use Rattle.matrix.proofs.Identity.{unit-same, unit-other, unit-byte, unit-sum, sum-unit, sum-plus-unit, unit-sum-before}
 use Rattle.matrix.proofs.Laws as L
 use Rattle.matrix.proofs.Answers.{refused-side, refused-lengths, answered-inverse, answered-singular}

@@ -1,86 +1,143 @@
 -- The working matrix filled row by row, and its right half written row by row. Assumes nothing.
-use mathlib.Core.Path.{◌≡◌, sym, ap, ◌∙◌, subst}
-use mathlib.Core.List.{List}
+use mathlib.Core.Path.{◌≡◌, refl, sym, ap, ◌∙◌, subst}
+use mathlib.Core.List.{List, [], ◌++◌}
 use mathlib.Core.Logic.{⊎_elim}
-use Prim.Native.Nat.{ℕ, ◌+◌, ◌*◌, ◌≤◌, ◌<◌}
-use native.Mathlib.Nat.{not-suc-le-zero, mul-le-mul_left}
+use Prim.Native.Nat.{ℕ, zero, suc, ◌+◌, ◌-◌, ◌*◌, ◌≤◌, ◌<◌}
+use native.Mathlib.Nat.{not-suc-le-zero}
 use native.Mathlib.Omega.{arith}
-use lib.ListN.{length, get_or, set}
-use lib.Seq.{get_or-set_same, get_or-set_other}
-use Rattle.base.proofs.Cases.{eq-or}
-use Rattle.base.proofs.Seq.{cell-lt}
+use lib.ListN.{length, get_or, set, take, drop, replicate, get_or-append, length-append, length-set}
+use lib.Seq.{get_or-set_same, get_or-set_other, get_or-take, get_or-drop, get_or-append-add}
+use borrow.Rule.Slice.PartMut.{put_mid}
+use Rattle.std.proofs.Common.{length-take, length-drop}
+use Rattle.base.proofs.Cases.{lt-or, eq-or}
+use Rattle.base.proofs.Seq.{cell-lt, zeros-at}
+use Rattle.field.specs.Field.{IsByte, Bytes}
 use Rattle.matrix.specs.Matrix.{entry}
 use Rattle.matrix.specs.Product.{unit}
-use Rattle.matrix.specs.Working.{grid, Rewritten, Loaded}
+use Rattle.matrix.specs.Working.{grid, LoadedRow}
 use Rattle.matrix.proofs.Identity.{unit-same, unit-other}
 
 -- the rows before i are those of [m | 1], the others are still zero
-pub record LoadedBelow (s : ℕ) (m : List ℕ) (i : ℕ) (w : List ℕ) : Type 0 where
+pub record LoadedBelow (s : ℕ) (m : List ℕ) (i : ℕ) (w : List (List ℕ)) : Type 0 where
+  pub size : length w ≡ 32
   pub left : (h k : ℕ) → h < i → k < s → grid w h k ≡ entry s m h k
   pub right : (h k : ℕ) → h < i → k < s → grid w h (s + k) ≡ unit h k
-  pub rest : (q : ℕ) → i * 64 ≤ q → get_or w q 0 ≡ 0
+  pub rest : (h k : ℕ) → i ≤ h → grid w h k ≡ 0
 
-pub loaded-none : (s : ℕ) (m w : List ℕ) → ((q : ℕ) → get_or w q 0 ≡ 0) → LoadedBelow s m 0 w
-loaded-none s m w z =
-    record { left = λ h k hh hk. absurd (not-suc-le-zero hh); right = λ h k hh hk. absurd (not-suc-le-zero hh); rest = λ q h. z q }
+pub zero-grid : (n t h k : ℕ) → grid (replicate n (replicate t 0)) h k ≡ 0
+zero-grid zero t h k = refl
+zero-grid (suc n) t zero k = zeros-at t k
+zero-grid (suc n) t (suc h) k = zero-grid n t h k
 
-module _ (s i : ℕ) (m old mid : List ℕ) (side : s ≤ 32) (hi : i < s) (size : length mid ≡ 2048) (b : LoadedBelow s m i old)
-    (r : Rewritten old mid (i * 64) s (entry s m i)) where
-  away : (q : ℕ) → (q ≡ i * 64 + (s + i) → ⊥) → get_or (set mid (i * 64 + (s + i)) 1) q 0 ≡ get_or mid q 0
-  away q ne = get_or-set_other mid (i * 64 + (s + i)) q 1 0 ne
+pub loaded-none : (s : ℕ) (m : List ℕ) (w : List (List ℕ)) → length w ≡ 32 → ((h k : ℕ) → grid w h k ≡ 0) → LoadedBelow s m 0 w
+loaded-none s m w size zeros =
+    record {
+      size = size;
+      left = λ h k hh hk. absurd (not-suc-le-zero hh);
+      right = λ h k hh hk. absurd (not-suc-le-zero hh);
+      rest = λ h k hh. zeros h k;
+    }
 
-  pub loaded-more : LoadedBelow s m (i + 1) (set mid (i * 64 + (s + i)) 1)
-  loaded-more =
-      record {
-        left =
-            λ h k hh hk.
-            away (h * 64 + k) (λ e. omega arith)
-            ∙ ⊎_elim (λ e. subst (λ (x : ℕ). grid mid x k ≡ entry s m x k) (sym e) (r.done k hk))
-            (λ ne. r.below (h * 64 + k) (omega arith) ∙ b.left h k (omega arith) hk)
-            (eq-or h i);
-        right =
-            λ h k hh hk.
-            ⊎_elim (λ e. subst (λ (x : ℕ). grid (set mid (i * 64 + (s + i)) 1) x (s + k) ≡ unit x k) (sym e) (here k hk))
-            (λ ne.
-            away (h * 64 + (s + k)) (λ e. omega arith) ∙ r.below (h * 64 + (s + k)) (omega arith)
-            ∙ b.right h k (omega arith) hk)
-            (eq-or h i);
-        rest = λ q hq. away q (λ e. omega arith) ∙ r.above q (omega arith) ∙ b.rest q (omega arith);
-      }
-    where
-      here : (k : ℕ) → k < s → grid (set mid (i * 64 + (s + i)) 1) i (s + k) ≡ unit i k
-      here k hk =
-          ⊎_elim
-          (λ e.
-          ap (λ (x : ℕ). grid (set mid (i * 64 + (s + i)) 1) i (s + x)) e ∙ get_or-set_same mid (i * 64 + (s + i)) 1 0 (omega arith)
-          ∙ sym (unit-same i) ∙ ap (unit i) (sym e))
+-- a row of m or of out lies within it
+pub line-within : (s i : ℕ) → i < s → i * s + s ≤ s * s
+line-within s i hi = let h = cell-lt s s i (s - 1) hi (omega arith) in omega arith
+
+pub length-line : (s i : ℕ) (m : List ℕ) → i < s → length m ≡ s * s → length (take (i * s + s - i * s) (drop (i * s) m)) ≡ s
+length-line s i m hi size =
+    let h = line-within s i hi in simp (length-take, length-drop) (omega arith)
+
+-- the entries, then a single 1 among zeros
+pub loaded-row : (i : ℕ) (entries row : List ℕ) → i < length entries → length row ≡ 64 → length entries ≤ 32 → Bytes entries
+    → ((k : ℕ) → get_or row k 0 ≡ 0) → LoadedRow i entries (set (entries ++ drop (length entries) row) (length entries + i) 1)
+loaded-row i entries row hi size small known zeros =
+    record {
+      left =
+          λ k hk.
+          get_or-set_other w (length entries + i) k 1 0 (λ q. omega arith) ∙ get_or-append entries rest 0 k hk;
+      right =
+          λ k hk.
+          ⊎_elim (λ q. ap (λ (x : ℕ). get_or (set w (length entries + i) 1) (length entries + x) 0) q ∙ here ∙ sym (unit-same i) ∙ ap (unit i) (sym q))
           (λ ne.
-          away (i * 64 + (s + k)) (λ e. ne (omega arith)) ∙ r.above (i * 64 + (s + k)) (omega arith)
-          ∙ b.rest (i * 64 + (s + k)) (omega arith) ∙ sym (unit-other i k (λ e. ne (sym e))))
-          (eq-or k i)
+          get_or-set_other w (length entries + i) (length entries + k) 1 0 (λ q. ne (omega arith)) ∙ get_or-append-add entries rest k 0 ∙ none k
+          ∙ sym (unit-other i k (λ q. ne (sym q))))
+          (eq-or k i);
+      bytes =
+          λ k.
+          ⊎_elim (λ q. subst IsByte (sym (ap (λ (x : ℕ). get_or (set w (length entries + i) 1) x 0) q ∙ here)) (omega arith))
+          (λ ne. subst IsByte (sym (get_or-set_other w (length entries + i) k 1 0 ne)) (whole k))
+          (eq-or k (length entries + i));
+    }
+  where
+    rest : List ℕ
+    rest = drop (length entries) row
 
-pub loaded-all : (s i : ℕ) (m w : List ℕ) → s ≤ i → LoadedBelow s m i w → Loaded s m w
-loaded-all s i m w hi b = record { left = λ h k hh. b.left h k (omega arith); right = λ h k hh. b.right h k (omega arith) }
+    w : List ℕ
+    w = entries ++ rest
+
+    none : (k : ℕ) → get_or rest k 0 ≡ 0
+    none k = get_or-drop (length entries) row k 0 ∙ zeros (length entries + k)
+
+    here : get_or (set w (length entries + i) 1) (length entries + i) 0 ≡ 1
+    here = get_or-set_same w (length entries + i) 1 0 (simp (length-append, length-drop) (omega arith))
+
+    whole : (k : ℕ) → IsByte (get_or w k 0)
+    whole k =
+        ⊎_elim (λ h. subst IsByte (sym (get_or-append entries rest 0 k h)) (known k))
+        (λ h. subst IsByte (sym (ap (λ (x : ℕ). get_or w x 0) (omega arith) ∙ get_or-append-add entries rest (k - length entries) 0 ∙ none (k - length entries))) (omega arith))
+        (lt-or k (length entries))
+
+pub loaded-more : (s i : ℕ) (m entries row : List ℕ) (w : List (List ℕ)) → i < s → s ≤ 32 → length entries ≡ s
+    → entries ≡ take (i * s + s - i * s) (drop (i * s) m) → LoadedRow i entries row → LoadedBelow s m i w → LoadedBelow s m (i + 1) (set w i row)
+unfolding entry
+loaded-more s i m entries row w hi side count e r b =
+    record {
+      size = simp length-set b.size;
+      left = λ h k hh hk. ⊎_elim (λ q. here-left h k q hk) (λ ne. away h k ne ∙ b.left h k (omega arith) hk) (eq-or h i);
+      right = λ h k hh hk. ⊎_elim (λ q. here-right h k q hk) (λ ne. away h (s + k) ne ∙ b.right h k (omega arith) hk) (eq-or h i);
+      rest = λ h k hh. away h k (λ q. omega arith) ∙ b.rest h k (omega arith);
+    }
+  where
+    away : (h k : ℕ) → (h ≡ i → ⊥) → grid (set w i row) h k ≡ grid w h k
+    away h k ne = ap (λ (x : List ℕ). get_or x k 0) (get_or-set_other w i h row [] ne)
+
+    here : (h k : ℕ) → h ≡ i → grid (set w i row) h k ≡ get_or row k 0
+    here h k q =
+        ap (λ (x : ℕ). grid (set w i row) x k) q ∙ ap (λ (x : List ℕ). get_or x k 0) (get_or-set_same w i row [] (omega (arith, b.size)))
+
+    here-left : (h k : ℕ) → h ≡ i → k < s → grid (set w i row) h k ≡ entry s m h k
+    here-left h k q hk =
+        here h k q ∙ r.left k (omega arith) ∙ ap (λ (x : List ℕ). get_or x k 0) e ∙ get_or-take (i * s + s - i * s) (drop (i * s) m) k 0 (omega arith)
+        ∙ get_or-drop (i * s) m k 0 ∙ ap (λ (x : ℕ). get_or m (x * s + k) 0) (sym q)
+
+    here-right : (h k : ℕ) → h ≡ i → k < s → grid (set w i row) h (s + k) ≡ unit h k
+    here-right h k q hk =
+        here h (s + k) q ∙ ap (λ (x : ℕ). get_or row (x + k) 0) (sym count) ∙ r.right k (omega arith) ∙ ap (λ (x : ℕ). unit x k) (sym q)
 
 -- the rows before i are written
-abbrev pub StoredBelow : ℕ → List ℕ → ℕ → List ℕ → Type 0
+abbrev pub StoredBelow : ℕ → List (List ℕ) → ℕ → List ℕ → Type 0
 StoredBelow s w i out = (h k : ℕ) → h < i → k < s → entry s out h k ≡ grid w h (s + k)
 
-pub stored_more : (s i : ℕ) (w old new : List ℕ) → StoredBelow s w i old → Rewritten old new (i * s) s (λ k. grid w i (s + k))
-    → StoredBelow s w (i + 1) new
+pub stored_more : (s i : ℕ) (w : List (List ℕ)) (out row : List ℕ) → i < s → length out ≡ s * s → length row ≡ s
+    → ((k : ℕ) → k < s → get_or row k 0 ≡ grid w i (s + k)) → StoredBelow s w i out
+    → StoredBelow s w (i + 1) (put_mid (i * s) (i * s + s - i * s) out row)
 unfolding entry
-stored_more s i w old new b r h k hh hk =
-    ⊎_elim (λ e. subst (λ (x : ℕ). get_or new (x * s + k) 0 ≡ grid w x (s + k)) (sym e) (r.done k hk))
-    (λ ne. r.below (h * s + k) (cell-lt s i h k (omega arith) hk) ∙ b h k (omega arith) hk)
-    (eq-or h i)
+stored_more s i w out row hi size count r b h k hh hk = ⊎_elim here before (eq-or h i)
+  where
+    all : i * s + s ≤ s * s
+    all = line-within s i hi
 
--- a place of row i in the matrix, for the code's bounds
-pub record Place (s i k : ℕ) : Type 0 where
-  pub within : i * s + k < s * s
-  pub small : s * s ≤ 1024
+    start : length (take (i * s) out) ≡ i * s
+    start = simp length-take (omega (arith, size, all))
 
-pub area : (s : ℕ) → s ≤ 32 → s * s ≤ 1024
-area s hs = omega (arith, mul-le-mul_left s hs)
+    here : h ≡ i → get_or (put_mid (i * s) (i * s + s - i * s) out row) (h * s + k) 0 ≡ grid w h (s + k)
+    here q =
+        ap (λ (x : ℕ). get_or (put_mid (i * s) (i * s + s - i * s) out row) (x * s + k) 0) q
+        ∙ ap (λ (x : ℕ). get_or (put_mid (i * s) (i * s + s - i * s) out row) (x + k) 0) (sym start)
+        ∙ get_or-append-add (take (i * s) out) _ k 0 ∙ get_or-append row _ 0 k (omega arith)
+        ∙ r k hk ∙ ap (λ (x : ℕ). grid w x (s + k)) (sym q)
 
-pub place : (s i k : ℕ) → s ≤ 32 → i < s → k < s → Place s i k
-place s i k hs hi hk = record { within = cell-lt s s i k hi hk; small = area s hs }
+    before : (h ≡ i → ⊥) → get_or (put_mid (i * s) (i * s + s - i * s) out row) (h * s + k) 0 ≡ grid w h (s + k)
+    before ne =
+        get_or-append (take (i * s) out) _ 0 (h * s + k) (omega (arith, start, cell-lt s i h k (omega arith) hk))
+        ∙ get_or-take (i * s) out (h * s + k) 0 (cell-lt s i h k (omega arith) hk)
+        ∙ b h k (omega arith) hk

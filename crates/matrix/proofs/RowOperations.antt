@@ -4,7 +4,7 @@ use mathlib.Core.Path.{◌≡◌, refl, sym, ap, ap₂, ◌∙◌, subst}
 use mathlib.Core.List.{List}
 use mathlib.Core.Logic.Iff
 use mathlib.Core.Logic.{◌↔◌, ⊎_elim}
-use Prim.Native.Nat.{ℕ, ◌+◌, ◌*◌, ◌≤◌, ◌<◌}
+use Prim.Native.Nat.{ℕ, ◌+◌, ◌≤◌, ◌<◌}
 use native.Mathlib.Omega.{arith}
 use Rattle.base.proofs.Cases.{lt-or, eq-or}
 use Rattle.field.specs.Field.{IsByte, Inverse, add, mul}
@@ -13,12 +13,12 @@ use Rattle.field.proofs.Addition.{add-self, add-zero-left, add-zero-right}
 use Rattle.field.proofs.Multiplication.{mul-add-left, mul_assoc, mul_comm, mul-byte, mul-zero-right, mul-one-left, mul-one-right}
 use Rattle.field.proofs.FiniteSum.{sum-byte, sum-ext, sum-add, mul-sum}
 use Rattle.matrix.specs.Product.{unit}
-use Rattle.matrix.specs.Working.{grid, row_plus, row_times, Rewritten, Kills, Units, Reduced, FoundAt, Raised, Ready, Copy, Cleared}
+use Rattle.matrix.specs.Working.{grid, row_plus, row_times, Rewritten, Kills, Units, Reduced, FoundAt, Raised, Ready}
 use Rattle.matrix.proofs.Identity.{unit-same, unit-other}
-use Rattle.matrix.proofs.Rewriting.{other_row}
+use Rattle.matrix.proofs.Rewriting.{by_copy}
 
 -- row i of the working matrix against the vector z
-abbrev pub against : ℕ → List ℕ → ℕ → (ℕ → ℕ) → ℕ
+abbrev pub against : ℕ → List (List ℕ) → ℕ → (ℕ → ℕ) → ℕ
 against s w i z = sum (s + s) (λ k. mul (grid w i k) (z k))
 
 scaled-sum : (n c : ℕ) (q z : ℕ → ℕ) → sum n (λ k. mul (mul c (q k)) (z k)) ≡ mul c (sum n (λ k. mul (q k) (z k)))
@@ -36,14 +36,11 @@ added-sum n c r q z =
 
 -- ---- what both have in common: one row is rewritten
 
-module _ (s i : ℕ) (old new : List ℕ) (row : ℕ → ℕ) (side : s ≤ 32) (hi : i < s) (r : Rewritten old new (i * 64) (s + s) row) where
-  kept_row : (h k : ℕ) → k < 64 → (h ≡ i → ⊥) → grid new h k ≡ grid old h k
-  kept_row = other_row old new i (s + s) row (omega arith) r
-
+module _ (s i : ℕ) (old new : List (List ℕ)) (row : ℕ → ℕ) (hi : i < s) (r : Rewritten s i old new row) where
   kept-against : (z : ℕ → ℕ) (h : ℕ) → (h ≡ i → ⊥) → against s new h z ≡ against s old h z
   kept-against z h ne =
       sum-ext (s + s) (λ k. mul (grid new h k) (z k)) (λ k. mul (grid old h k) (z k))
-      (λ k hk. ap (λ (x : ℕ). mul x (z k)) (kept_row h k (omega arith) ne))
+      (λ k hk. ap (λ (x : ℕ). mul x (z k)) (r.others h k ne))
 
   here-against : (z : ℕ → ℕ) → against s new i z ≡ sum (s + s) (λ k. mul (row k) (z k))
   here-against z =
@@ -64,29 +61,29 @@ module _ (s i : ℕ) (old new : List ℕ) (row : ℕ → ℕ) (side : s ≤ 32) 
   units-from : (j : ℕ) → j ≤ s → Units s j old → ((k : ℕ) → k < j → row k ≡ unit i k) → Units s j new
   units-from j hj u e h k hh hk =
       ⊎_elim (λ q. subst (λ (x : ℕ). grid new x k ≡ unit x k) (sym q) (r.done k (omega arith) ∙ e k hk))
-      (λ ne. kept_row h k (omega arith) ne ∙ u h k hh hk)
+      (λ ne. r.others h k ne ∙ u h k hh hk)
       (eq-or h i)
 
 -- ---- c times row p is added to row i
 
-module _ (s i c p : ℕ) (old new : List ℕ) (side : s ≤ 32) (hi : i < s) (hp : p < s) (ne : i ≡ p → ⊥)
-    (r : Rewritten old new (i * 64) (s + s) (row_plus old i c (grid old p))) where
+module _ (s i c p : ℕ) (old new : List (List ℕ)) (hi : i < s) (hp : p < s) (ne : i ≡ p → ⊥)
+    (r : Rewritten s i old new (row_plus old i c (grid old p))) where
   added-against : (z : ℕ → ℕ) → against s new i z ≡ add (against s old i z) (mul c (against s old p z))
-  added-against z = here-against s i old new (row_plus old i c (grid old p)) side hi r z ∙ added-sum (s + s) c (grid old i) (grid old p) z
+  added-against z = here-against s i old new (row_plus old i c (grid old p)) hi r z ∙ added-sum (s + s) c (grid old i) (grid old p) z
 
   pub added : (j : ℕ) → j ≤ p → Units s j old → Reduced s j old new
   added j hj u =
       record {
         same =
-            same_from s i old new (row_plus old i c (grid old p)) side hi r
+            same_from s i old new (row_plus old i c (grid old p)) hi r
             (λ z kills. added-against z ∙ ap₂ add (kills i hi) (ap (mul c) (kills p hp) ∙ mul-zero-right c) ∙ add-zero-left 0)
             (λ z kills.
             let gone : against s old p z ≡ 0 =
-            sym (kept-against s i old new (row_plus old i c (grid old p)) side hi r z p (λ e. ne (sym e))) ∙ kills p hp in
+            sym (kept-against s i old new (row_plus old i c (grid old p)) hi r z p (λ e. ne (sym e))) ∙ kills p hp in
             sym (add-zero-right (against s old i z)) ∙ ap (add (against s old i z)) (sym (mul-zero-right c) ∙ ap (mul c) (sym gone))
             ∙ sym (added-against z) ∙ kills i hi);
         units =
-            units-from s i old new (row_plus old i c (grid old p)) side hi r j (omega arith) u
+            units-from s i old new (row_plus old i c (grid old p)) hi r j (omega arith) u
             (λ k hk.
             ap₂ add (u i k hi hk) (ap (mul c) (u p k hp hk ∙ unit-other p k (λ e. omega arith)) ∙ mul-zero-right c)
             ∙ add-zero-right (unit i k));
@@ -94,23 +91,23 @@ module _ (s i c p : ℕ) (old new : List ℕ) (side : s ≤ 32) (hi : i < s) (hp
 
 -- ---- row j is multiplied by c, which has an inverse
 
-module _ (s j c d : ℕ) (old new : List ℕ) (side : s ≤ 32) (hj : j < s) (inverse : mul d c ≡ 1)
-    (r : Rewritten old new (j * 64) (s + s) (row_times old c j)) where
+module _ (s j c d : ℕ) (old new : List (List ℕ)) (hj : j < s) (inverse : mul d c ≡ 1)
+    (r : Rewritten s j old new (row_times old c j)) where
   scaled-against : (z : ℕ → ℕ) → against s new j z ≡ mul c (against s old j z)
-  scaled-against z = here-against s j old new (row_times old c j) side hj r z ∙ scaled-sum (s + s) c (grid old j) z
+  scaled-against z = here-against s j old new (row_times old c j) hj r z ∙ scaled-sum (s + s) c (grid old j) z
 
   pub scaled : Units s j old → Reduced s j old new
   scaled u =
       record {
         same =
-            same_from s j old new (row_times old c j) side hj r
+            same_from s j old new (row_times old c j) hj r
             (λ z kills. scaled-against z ∙ ap (mul c) (kills j hj) ∙ mul-zero-right c)
             (λ z kills.
             sym (mul-one-left (against s old j z) (sum-byte (s + s) _ (λ k hk. mul-byte (grid old j k) (z k))))
             ∙ ap (λ (x : ℕ). mul x (against s old j z)) (sym inverse) ∙ mul_assoc d c (against s old j z)
             ∙ ap (mul d) (sym (scaled-against z) ∙ kills j hj) ∙ mul-zero-right d);
         units =
-            units-from s j old new (row_times old c j) side hj r j (omega arith) u
+            units-from s j old new (row_times old c j) hj r j (omega arith) u
             (λ k hk.
             let off : unit j k ≡ 0 = unit-other j k (λ e. omega arith) in
             ap (mul c) (u j k hj hk ∙ off) ∙ mul-zero-right c ∙ sym off);
@@ -118,25 +115,25 @@ module _ (s j c d : ℕ) (old new : List ℕ) (side : s ≤ 32) (hj : j < s) (in
 
 -- ---- the steps of one column
 
-pub reduced-none : (s : ℕ) (w : List ℕ) (j : ℕ) → Units s j w → Reduced s j w w
+pub reduced-none : (s : ℕ) (w : List (List ℕ)) (j : ℕ) → Units s j w → Reduced s j w w
 reduced-none s w j u = record { same = λ z. Iff.rfl; units = u }
 
-pub reduced-then : (s j k : ℕ) (a b c : List ℕ) → Reduced s j a b → Reduced s k b c → Reduced s k a c
+pub reduced-then : (s j k : ℕ) (a b c : List (List ℕ)) → Reduced s j a b → Reduced s k b c → Reduced s k a c
 reduced-then s j k a b c r q = record { same = λ z. Iff.trans (r.same z) (q.same z); units = q.units }
 
-pub reduced-less : (s j k : ℕ) (a b : List ℕ) → k ≤ j → Reduced s j a b → Reduced s k a b
+pub reduced-less : (s j k : ℕ) (a b : List (List ℕ)) → k ≤ j → Reduced s j a b → Reduced s k a b
 reduced-less s j k a b h r = record { same = r.same; units = λ i c hi hc. r.units i c hi (omega arith) }
 
-pub raised-none : (s j p : ℕ) (w : List ℕ) → Units s j w → FoundAt s j w p → p ≡ j → Raised s j w w
+pub raised-none : (s j p : ℕ) (w : List (List ℕ)) → Units s j w → FoundAt s j w p → p ≡ j → Raised s j w w
 raised-none s j p w u f e =
     record { reduced = reduced-none s w j u; nonzero = subst (λ (x : ℕ). grid w x j ≡ 0 → ⊥) e f.nonzero }
 
 -- row p is added: row j had a zero
-pub raised-added : (s j p : ℕ) (old new : List ℕ) → s ≤ 32 → IsByte (grid old p j) → Units s j old → FoundAt s j old p → (p ≡ j → ⊥)
-    → Rewritten old new (j * 64) (s + s) (row_plus old j 1 (grid old p)) → Raised s j old new
-raised-added s j p old new side byte u f ne r =
+pub raised-added : (s j p : ℕ) (old new : List (List ℕ)) → IsByte (grid old p j) → Units s j old → FoundAt s j old p → (p ≡ j → ⊥)
+    → Rewritten s j old new (row_plus old j 1 (grid old p)) → Raised s j old new
+raised-added s j p old new byte u f ne r =
     record {
-      reduced = added s j 1 p old new side hj f.within (λ e. ne (sym e)) r j f.low u;
+      reduced = added s j 1 p old new hj f.within (λ e. ne (sym e)) r j f.low u;
       nonzero = λ e. f.nonzero (sym pivot ∙ e);
     }
   where
@@ -152,14 +149,21 @@ raised-added s j p old new side byte u f ne r =
         ∙ add-zero-left (grid old p j)
 
 -- row j is multiplied by its pivot's inverse
-pub scaled-pivot : (s j c : ℕ) (old new : List ℕ) → s ≤ 32 → j < s → (grid old j j ≡ 0 → ⊥) → Inverse (grid old j j) c → Units s j old
-    → Rewritten old new (j * 64) (s + s) (row_times old c j) → Reduced s j old new × (grid new j j ≡ 1)
-scaled-pivot s j c old new side hj ne inv u r = (
-  scaled s j c (grid old j j) old new side hj (inv.product ne) r u,
+pub scaled-pivot : (s j c : ℕ) (old new : List (List ℕ)) → j < s → (grid old j j ≡ 0 → ⊥) → Inverse (grid old j j) c → Units s j old
+    → Rewritten s j old new (row_times old c j) → Reduced s j old new × (grid new j j ≡ 1)
+scaled-pivot s j c old new hj ne inv u r = (
+  scaled s j c (grid old j j) old new hj (inv.product ne) r u,
   r.done j (omega arith) ∙ mul_comm c (grid old j j) ∙ inv.product ne,
 )
 
-pub cleared-none : (s j i : ℕ) (w : List ℕ) → Ready s j w → i ≡ j → Cleared s j i w w
+-- Column j of row i is the identity's; row j, and column j of the other rows, are as they were.
+pub record Cleared (s j i : ℕ) (old new : List (List ℕ)) : Type 0 where
+  pub reduced : Reduced s j old new
+  pub kept : (k : ℕ) → k < s + s → grid new j k ≡ grid old j k
+  pub here : grid new i j ≡ unit i j
+  pub others : (h : ℕ) → h < s → (h ≡ i → ⊥) → grid new h j ≡ grid old h j
+
+pub cleared-none : (s j i : ℕ) (w : List (List ℕ)) → Ready s j w → i ≡ j → Cleared s j i w w
 cleared-none s j i w d e =
     record {
       reduced = reduced-none s w j d.units;
@@ -169,39 +173,33 @@ cleared-none s j i w d e =
     }
 
 -- row j, times what stands in column j, is added: the two are equal, and their sum is zero
-pub cleared-added : (s j i : ℕ) (old new : List ℕ) → s ≤ 32 → i < s → (i ≡ j → ⊥) → IsByte (grid old i j) → Ready s j old
-    → Rewritten old new (i * 64) (s + s) (row_plus old i (grid old i j) (grid old j)) → Cleared s j i old new
-cleared-added s j i old new side hi ne byte d r =
+pub cleared-added : (s j i : ℕ) (old new : List (List ℕ)) → i < s → (i ≡ j → ⊥) → IsByte (grid old i j) → Ready s j old
+    → Rewritten s i old new (row_plus old i (grid old i j) (grid old j)) → Cleared s j i old new
+cleared-added s j i old new hi ne byte d r =
     record {
-      reduced = added s i (grid old i j) j old new side hi d.within ne r j (omega arith) d.units;
-      kept = λ k hk. stays j k (omega arith) (λ e. ne (sym e));
+      reduced = added s i (grid old i j) j old new hi d.within ne r j (omega arith) d.units;
+      kept = λ k hk. r.others j k (λ e. ne (sym e));
       here =
           r.done j (omega (arith, d.within))
           ∙ ap (add (grid old i j)) (ap (mul (grid old i j)) d.pivot ∙ mul-one-right (grid old i j) byte)
           ∙ add-self (grid old i j) ∙ sym (unit-other i j ne);
-      others = λ h hh nh. stays h j (omega (arith, d.within)) nh;
+      others = λ h hh nh. r.others h j nh;
     }
-  where
-    stays : (h k : ℕ) → k < 64 → (h ≡ i → ⊥) → grid new h k ≡ grid old h k
-    stays = kept_row s i old new (row_plus old i (grid old i j) (grid old j)) side hi r
 
 -- the rows before i are clear in column j
-pub record ClearedBelow (s j i : ℕ) (old new : List ℕ) : Type 0 where
+pub record ClearedBelow (s j i : ℕ) (old new : List (List ℕ)) : Type 0 where
   pub reduced : Reduced s j old new
   pub kept : (k : ℕ) → k < s + s → grid new j k ≡ grid old j k
   pub column : (h : ℕ) → h < i → grid new h j ≡ unit h j
 
-pub below_none : (s j : ℕ) (w : List ℕ) → Units s j w → ClearedBelow s j 0 w w
+pub below_none : (s j : ℕ) (w : List (List ℕ)) → Units s j w → ClearedBelow s j 0 w w
 below_none s j w u = record { reduced = reduced-none s w j u; kept = λ k hk. refl; column = λ h hh. omega arith }
 
-pub still-ready : (s j i : ℕ) (old new : List ℕ) → Ready s j old → ClearedBelow s j i old new → Ready s j new
+pub still-ready : (s j i : ℕ) (old new : List (List ℕ)) → Ready s j old → ClearedBelow s j i old new → Ready s j new
 still-ready s j i old new d b =
     record { within = d.within; units = b.reduced.units; pivot = b.kept j (omega (arith, d.within)) ∙ d.pivot }
 
-pub still-copy : (s j i : ℕ) (old new row : List ℕ) → Copy s j old row → ClearedBelow s j i old new → Copy s j new row
-still-copy s j i old new row e b = record { size = e.size; same = λ k hk. e.same k hk ∙ sym (b.kept k hk) }
-
-pub below_more : (s j i : ℕ) (old mid new : List ℕ) → i < s → ClearedBelow s j i old mid → Cleared s j i mid new
+pub below_more : (s j i : ℕ) (old mid new : List (List ℕ)) → i < s → ClearedBelow s j i old mid → Cleared s j i mid new
     → ClearedBelow s j (i + 1) old new
 below_more s j i old mid new hi b x =
     record {
@@ -214,7 +212,7 @@ below_more s j i old mid new hi b x =
           (eq-or h i);
     }
 
-pub below_all : (s j i : ℕ) (old new : List ℕ) → s ≤ i → ClearedBelow s j i old new → Reduced s (j + 1) old new
+pub below_all : (s j i : ℕ) (old new : List (List ℕ)) → s ≤ i → ClearedBelow s j i old new → Reduced s (j + 1) old new
 below_all s j i old new hi b =
     record {
       same = b.reduced.same;
@@ -224,3 +222,31 @@ below_all s j i old new hi b =
           (λ ne. b.reduced.units h k hh (omega arith))
           (eq-or k j);
     }
+
+-- ---- the steps as the code takes them: the working matrix says its side, and no step changes it
+
+pub scaled-ready : (s t u j c : ℕ) (old mid new : List (List ℕ)) → t ≡ s → u ≡ t → j < s → Raised s j old mid → Inverse (grid mid j j) c
+    → Rewritten t j mid new (row_times mid c j) → Reduced s j old new × Ready u j new
+scaled-ready s t u j c old mid new e e' hj a inv r =
+    let q =
+    scaled-pivot s j c mid new hj a.nonzero inv a.reduced.units (subst (λ (x : ℕ). Rewritten x j mid new (row_times mid c j)) e r) in (
+      reduced-then s j j old mid new a.reduced q.0,
+      subst (λ (x : ℕ). Ready x j new) (sym (e' ∙ e)) (record { within = hj; units = q.0.units; pivot = q.1 }),
+    )
+
+pub reduced-more : (s t j k : ℕ) (old mid new : List (List ℕ)) → t ≡ s → Reduced s j old mid → Reduced t k mid new → Reduced s k old new
+reduced-more s t j k old mid new e a r = reduced-then s j k old mid new a (subst (λ (x : ℕ). Reduced x k mid new) e r)
+
+pub cleared-more : (s t j i : ℕ) (old mid new : List (List ℕ)) (row : ℕ → ℕ) → t ≡ s → i < t → (i ≡ j → ⊥) → IsByte (grid mid i j) → Ready s j old
+    → ((k : ℕ) → k < s + s → row k ≡ grid old j k) → Rewritten t i mid new (row_plus mid i (grid mid i j) row) → ClearedBelow s j i old mid
+    → ClearedBelow s j (i + 1) old new
+cleared-more s t j i old mid new row e hi ne byte d copy r b =
+    below_more s j i old mid new (omega arith) b
+    (cleared-added s j i mid new (omega arith) ne byte (still-ready s j i old mid d b)
+    (by_copy s i (grid mid i j) j mid new row (λ k hk. copy k hk ∙ sym (b.kept k hk))
+    (subst (λ (x : ℕ). Rewritten x i mid new (row_plus mid i (grid mid i j) row)) e r)))
+
+pub cleared-same : (s t j i : ℕ) (old mid : List (List ℕ)) → t ≡ s → i < t → i ≡ j → Ready s j old → ClearedBelow s j i old mid
+    → ClearedBelow s j (i + 1) old mid
+cleared-same s t j i old mid e hi q d b =
+    below_more s j i old mid mid (omega arith) b (cleared-none s j i mid (still-ready s j i old mid d b) q)

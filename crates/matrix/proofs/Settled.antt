@@ -11,8 +11,8 @@ use Rattle.base.proofs.Cases.{lt-or, eq-or}
 use Rattle.base.proofs.Questions.{nay, first, stopped, past}
 use Rattle.matrix.specs.Matrix.{Singular, FirstDependent}
 use Rattle.matrix.specs.Invert.{number, column_number, Proper, side_asked, lengths_asked, inverse_asked, InvertPost}
-use Rattle.matrix.specs.declared.Inversion.{Inversion}
-use Rattle.matrix.specs.declared.Inversion.TheVariants.{Inverted, Singular as SingularAt, Refused}
+use Rattle.matrix.specs.Inversion.{Inversion}
+use Rattle.matrix.specs.Inversion.{Inverted, Singular as SingularAt, Refused}
 use Rattle.matrix.proofs.Laws.{inverse-unique, dependent-singular}
 
 -- there is but one first

@@ -2,8 +2,7 @@
 use Rattle.std.specs.Prelude.{◌≡◌, Bool, false, ◌&&◌, List, [], ◌∷◌, ◌↔◌, ℕ, ◌*◌, leb, eqb, length}
 use Rattle.base.specs.Gate.{Question, ask, first_no}
 use Rattle.matrix.specs.Matrix.{IsInverse, Singular, FirstDependent}
-use Rattle.matrix.specs.declared.Inversion.{Inversion}
-use Rattle.matrix.specs.declared.Inversion.TheVariants.{Inverted, Singular as SingularAt, Refused}
+use Rattle.matrix.specs.Inversion.{Inversion, Inverted, Singular as SingularAt, Refused}
 
 -- The answer's number in document 01 ..
 abbrev pub number : Inversion → ℕ
