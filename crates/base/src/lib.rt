@@ -3,29 +3,11 @@
 
 ghost use Rattle.std.specs.Prelude.{◌≡◌, true, ◌*◌, ◌^◌, ◌≤◌, ◌<◌, eqb};
 
-// Whether length = count · size, for numbers of any size. That of small numbers is formed; that of large ones might overflow, so length is divided.
+// Whether length = count · size, for numbers of any size: a product that overflows is no length.
 pub fn is_product(length: usize, count: usize, size: usize) -> bool
     ensures { result ≡ eqb length (count * size) }
 {
-    if small(count, size) {
-        return length == count * size;
-    }
-    if size == 0 {
-        return length == 0;
-    }
-    if length / size != count {
-        return false;
-    }
-    length % size == 0
-}
-
-fn small(count: usize, size: usize) -> bool
-    ensures { result ≡ true → count * size < 2 ^ 32 }
-{
-    if 65535 < count {
-        return false;
-    }
-    size <= 65535
+    count.checked_mul(size) == Some(length)
 }
 
 // A byte as a usize.
