@@ -9,6 +9,7 @@ ghost use Rattle.subsets.specs.Numbers.{Above};
 use params::NodeSet;
 
 // The set behind this one, among those of nodes 1..n; the same set where n exceeds 32, where the set has a node above n, and where it is the last.
+// (Not an Option, which is no plainer: its one caller knows that a set comes behind, and would have to write an arm that is never taken.)
 pub fn next(set: NodeSet, n: usize) -> NodeSet
     ensures { NextPost n set.0 result.0 }
 {
@@ -37,8 +38,8 @@ fn next_number(word: u32) -> u64
     requires { 0 < word }
     ensures { Above word result }
 {
-    let low = u32::trailing_zeros(word);
-    let carried = word as u64 + (1u64 << low);
-    let others = u64::trailing_zeros(carried) - low - 1;
+    let low = word.trailing_zeros();
+    let carried = u64::from(word) + (1u64 << low);
+    let others = carried.trailing_zeros() - low - 1;
     carried + ((1u64 << others) - 1)
 }

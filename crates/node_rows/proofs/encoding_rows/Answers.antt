@@ -1,12 +1,9 @@
 -- The list that is lent is that of the points of the nodes 1, .., n. Assumes nothing.
-use mathlib.Core.Path.{refl, ◌∙◌}
+use mathlib.Core.Path.{◌∙◌}
 use native.Mathlib.Omega.{arith}
 use Rattle.code.proofs.Points.{points-fit, points-count, points-front}
 use Rattle.node_rows.proofs.Laws.{first-points, encodes-made}
 use Rattle.node_rows.proofs.encoding_rows.Goals as goal
-
-pub returns-then-n-gt32 : goal.returns-then-n-gt32
-returns-then-n-gt32 c = record { written = λ le room. absurd (omega arith); kept = λ none. refl }
 
 pub slice_bounds-points-end : goal.slice_bounds-points-end
 slice_bounds-points-end c = points-fit _ _ _ c.points_of-count.ensures

@@ -1,14 +1,8 @@
 -- Eight bytes and at most eight coefficients: the bytes of the word are their picks. Assumes nothing.
-use mathlib.Core.Path.{refl, ◌∙◌}
+use mathlib.Core.Path.{◌∙◌}
 use native.Mathlib.Omega.{arith}
 use Rattle.picks.proofs.Words.{picks-are}
 use Rattle.picks.proofs.put_picks.Goals as goal
-
-pub returns-then-picks-ne8 : goal.returns-then-picks-ne8
-returns-then-picks-ne8 c = record { written = λ e h. absurd (omega arith); kept = λ ne. refl }
-
-pub returns-then-coeffs-gt8 : goal.returns-then-coeffs-gt8
-returns-then-coeffs-gt8 c = record { written = λ e h. absurd (omega arith); kept = λ ne. refl }
 
 pub returns : goal.returns
 returns c =

@@ -1,42 +1,27 @@
 -- Where a set comes behind, it is the one of proofs/Successor.antt; otherwise a test has found that none does. Assumes nothing.
 use mathlib.Core.Path.{◌≡◌, sym, ap, ◌∙◌, subst}
-use mathlib.Core.Bool.{true≢false}
 use Prim.Native.Nat.{ℕ, suc, ◌+◌, ◌-◌, ◌*◌, ◌%◌, ◌^◌, ◌≤◌, ◌<◌}
 use native.Mathlib.Omega.{arith}
-use lib.Pow.{pow_pos, pow_mono}
-use Rattle.params.specs.Nodes.{size}
+use mathlib.Core.Bool.{Bool, true}
+use Rattle.params.specs.Nodes.{size, within}
 use Rattle.subsets.specs.Order.{Next, Passable}
 use Rattle.subsets.proofs.Numbers.{wide-shifted}
-use Rattle.subsets.proofs.Successor.{next-same, next_last, next-none, kept, moved}
+use Rattle.subsets.proofs.Successor.{next-same, next_last, next-none, moved}
 use Rattle.subsets.proofs.next.Goals as goal
 
-pub returns-then-n-gt32 : goal.returns-then-n-gt32
-returns-then-n-gt32 c = let a = c.args in kept a.n a.set.0 (λ p. omega (arith, p.n_high))
-
-pub returns-then-not-within : goal.returns-then-not-within
-returns-then-not-within c =
-    let a = c.args in
-    kept a.n a.set.0 (λ p. true≢false (sym p.inside ∙ sym c.within.ensures ∙ c.if-not-within.true))
-
-pub returns-then-n-size : goal.returns-then-n-size
-returns-then-n-size c = let a = c.args in kept a.n a.set.0 (λ p. omega (arith, p.not_all))
+passable : (n s k : ℕ) (w : Bool) → n ≤ 32 → w ≡ within n s → w ≡ true → k ≡ size s → k < n → Passable n s
+passable n s k w h is inside count less = record { n_high = h; inside = sym is ∙ inside; not_all = omega arith }
 
 pub returns-then-set-eq0 : goal.returns-then-set-eq0
 returns-then-set-eq0 c =
     let a = c.args in
-    let p : Passable a.n a.set.0 = record { n_high = omega (arith, c.if-n-gt32.false); inside = sym c.within.ensures ∙ c.if-not-within.false; not_all = omega (arith, c.size-size.ensures, c.if-n-size.false) } in
+    let p = passable a.n a.set.0 _ _ c.if-n-gt32.false c.within.ensures c.if-not-within.false c.size-size.ensures c.if-n-size.false in
     moved a.n a.set.0 1 p (next-none a.n a.set.0 c.if-set-eq0.true p.not_all)
-
-pub overflow_cast-result : goal.overflow_cast-result
-overflow_cast-result c =
-    let n = c.args.n in
-    let n_high : n ≤ 32 = omega (arith, c.if-n-gt32.false) in
-    record { fits = omega (arith, c.if-above-n.true, wide-shifted n (omega (arith, n_high)), pow_mono n_high) }
 
 pub returns-then-above-n : goal.returns-then-above-n
 returns-then-above-n c =
     let a = c.args in
-    let p : Passable a.n a.set.0 = record { n_high = omega (arith, c.if-n-gt32.false); inside = sym c.within.ensures ∙ c.if-not-within.false; not_all = omega (arith, c.size-size.ensures, c.if-n-size.false) } in
+    let p = passable a.n a.set.0 _ _ c.if-n-gt32.false c.within.ensures c.if-not-within.false c.size-size.ensures c.if-n-size.false in
     let r = c.next_number-above in
     moved a.n a.set.0 r.result p
     (next-same a.n a.set.0 r.result (omega (arith, c.if-above-n.true, wide-shifted a.n (omega (arith, p.n_high)))) r.ensures)
@@ -52,22 +37,10 @@ module _ (k : ℕ) (h : k < 32) where
   more-shifted : 1 * 2 ^ more % 2 ^ 64 ≡ 2 ^ more
   more-shifted = wide-shifted more (omega (arith, more-le))
 
-pub overflow_sub-result : goal.overflow_sub-result
-overflow_sub-result c =
-    let k = c.size-size.result in
-    let h : k < 32 = omega (arith, c.if-n-gt32.false, c.if-n-size.false) in
-    omega (arith, more-shifted k h, pow_pos (more k h))
-
-pub overflow_cast-result-2 : goal.overflow_cast-result-2
-overflow_cast-result-2 c =
-    let k = c.size-size.result in
-    let h : k < 32 = omega (arith, c.if-n-gt32.false, c.if-n-size.false) in
-    record { fits = omega (arith, more-shifted k h, pow_pos (more k h), pow_mono (more-le k h)) }
-
 pub returns : goal.returns
 returns c =
     let a = c.args in
-    let p : Passable a.n a.set.0 = record { n_high = omega (arith, c.if-n-gt32.false); inside = sym c.within.ensures ∙ c.if-not-within.false; not_all = omega (arith, c.size-size.ensures, c.if-n-size.false) } in
+    let p = passable a.n a.set.0 _ _ c.if-n-gt32.false c.within.ensures c.if-not-within.false c.size-size.ensures c.if-n-size.false in
     let r = c.next_number-above in
     let s = a.set.0 in
     let k = c.size-size.result in
