@@ -1,21 +1,13 @@
 -- Decimal digits written from the last to the first: what is left of the number is to be written before the digits that are there. Assumes nothing.
 use mathlib.Core.Path.{◌≡◌, sym, ap, ap₂, ◌∙◌, subst}
 use mathlib.Core.List.{List, ◌∷◌}
-use Prim.Native.Nat.{ℕ, suc, ◌+◌, ◌-◌, ◌/◌, ◌%◌, ◌^◌, ◌≤◌, ◌<◌}
+use Prim.Native.Nat.{ℕ, suc, ◌+◌, ◌/◌, ◌%◌, ◌^◌, ◌≤◌, ◌<◌}
 use native.Mathlib.Nat.{pow-suc, div-lt_iff_lt-mul}
 use native.Mathlib.Omega.{arith}
-use lib.ListN.{length, take, drop, set, length-drop, length-set}
-use lib.Seq.{take_all, drop-cons, drop-set-lt, get_or-set_same}
+use lib.ListN.{length, drop, set, length-set}
+use lib.Seq.{drop-cons, drop-set-lt, get_or-set_same}
 use borrow.Author.Tests.{lt-ltb, le-ltb}
 use Rattle.season_lines.specs.Lines.{digits_before}
-use Rattle.season_lines.specs.Writing.{TextAt}
-
--- the digits as they are lent
-pub put-tail : (start : ℕ) (digits text : List ℕ) (at : ℕ) (old : List ℕ) (next : ℕ) (new : List ℕ) → length digits ≡ 20 → drop start digits ≡ text
-    → TextAt (take (20 - start) (drop start digits)) at old next new → TextAt text at old next new
-put-tail start digits text at old next new h e p =
-    let f : take (20 - start) (drop start digits) ≡ drop start digits = take_all (20 - start) (drop start digits) (omega (arith, length-drop start digits)) in
-    rw e at (rw f at p)
 
 pub fewer_digits : (most n : ℕ) → n < 10 ^ suc most → n / 10 < 10 ^ most
 fewer_digits most n h = (div-lt_iff_lt-mul {k = 10} (omega arith)).1 (subst (λ (k : ℕ). n < k) (pow-suc 10 most) h)

@@ -2,12 +2,12 @@
 use mathlib.Core.Path.{◌≡◌, refl, sym, ap, ap₂, ◌∙◌}
 use mathlib.Core.List.{List, [], ◌∷◌, ◌++◌, append_assoc, append-nil}
 use Prim.Native.Nat.{ℕ, suc, ◌+◌, ◌*◌, ◌/◌, ◌%◌, ◌≤◌, ◌<◌}
-use native.Mathlib.Nat.{add-zero, zero-add}
+use native.Mathlib.Nat.{add-zero}
 use native.Mathlib.Numerals.{add-one}
 use native.Mathlib.Omega.{arith}
 use lib.ListN.{length, get_or, take, drop, set, length-append, length-set, take-append-drop}
 use lib.Seq.{length-take-le, take_at, drop_at, drop-drop, set_split, append_snoc, take-suc}
-use Rattle.season_lines.specs.Lines.{hex_digit, hex, message_field, line_of, room, Wrote, LinePost}
+use Rattle.season_lines.specs.Lines.{hex_digit, hex, message_field}
 use Rattle.season_lines.specs.Writing.{TextAt}
 use Rattle.season_lines.proofs.Hexadecimal.{hex-append}
 
@@ -88,18 +88,3 @@ pub message-put : (message : List ℕ) (at : ℕ) (old : List ℕ) (m : ℕ) (mi
 unfolding message_field
 message-put [] at old m mid next new ne h p q = absurd (ne refl)
 message-put (x ∷ xs) at old m mid next new ne h p q = put_then (32 ∷ []) (hex (x ∷ xs)) at old m mid next new h p q
-
--- from the front
-put-wrote : (s : List ℕ) (old : List ℕ) (next : ℕ) (new : List ℕ) → TextAt s 0 old next new → Wrote s old next new
-put-wrote s old next new p =
-    record { count = p.ends ∙ zero-add (length s); bytes = p.bytes ∙ ap (λ (k : ℕ). s ++ drop k old) (zero-add (length s)) }
-
--- ---- the line, or nothing
-
-module _ (number kind answer : ℕ) (message old : List ℕ) where
-  pub line_refused : length old < room message → LinePost number kind answer message old 0 old
-  line_refused h = record { served = λ fits. absurd (omega arith); refused = λ _. record { count = refl; bytes = refl } }
-
-  pub line-served : (next : ℕ) (new : List ℕ) → room message ≤ length old → TextAt (line_of number kind answer message) 0 old next new
-      → LinePost number kind answer message old next new
-  line-served next new h p = record { served = λ _. put-wrote (line_of number kind answer message) old next new p; refused = λ cramped. absurd (cramped h) }
