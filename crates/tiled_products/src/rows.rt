@@ -95,12 +95,13 @@ fn add_row<const TILE: usize, const MOST: usize>(
     add_sum(dst, &sum);
 }
 
-// dst += a row's sum. Of a whole tile the compiler knows the length, and makes vectors of it; the last, ragged tile goes by words.
+// dst += a row's sum, eight bytes at a time (request 2026-02 of document 02: a difference meets its block by words, never by add_block). Both arms do the same, but in the
+// first, that of a whole tile, the compiler knows how many words there are, and makes vectors of them.
 fn add_sum(dst: &mut [u8], sum: &[u8])
     ensures { dst.new ≡ plus dst.old sum.now }
 {
     if dst.len() == sum.len() {
-        add_block(dst, sum);
+        add_words(dst, sum);
         return;
     }
     add_words(dst, sum);
