@@ -20,6 +20,7 @@ pub struct Shape {
 }
 
 // Code parameters. Document 01 calls them an arrangement.
+// (The shape's fields stand here anew: the definitions and contracts say a.k and a.n over a thousand times, and a.shape.n there would be no plainer.)
 #[derive(Clone, Copy, PartialEq, Eq)]
 pub struct Params {
     pub k: usize,
