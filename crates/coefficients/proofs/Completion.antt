@@ -23,19 +23,19 @@ use Rattle.products.specs.Blocks.{Fits, Added}
 use Rattle.products.proofs.Arriving.{ordered-added}
 use Rattle.points.specs.Lists.{Among}
 use Rattle.coefficients.specs.Coefficients.{power_rows, Extends, Roomy, ExtendsPost}
-use Rattle.coefficients.specs.Working.{remaining, Weighable, Carries, Shared, Sharable}
+use Rattle.coefficients.specs.Working.{remaining, Weighable, Carries, Shared}
 use Rattle.coefficients.proofs.Laws.{length-power_rows, power_rows-at, product-fits, first-length, first-at, first-inside, product-first}
 
 -- ---- the share of the leading coefficients
 
 -- by one product; the powers stand at the front of a buffer
-pub shared : (rows e : ℕ) (at gains powers rest order columns old new : List ℕ) → Weighable e at → Sharable rows e at gains old → powers ≡ power_rows e at → order ≡ in_order
+pub shared : (rows e : ℕ) (at gains powers rest order columns old new : List ℕ) → Weighable e at → rows ≤ 32 → length gains ≡ rows * length at → length old ≡ rows * e → powers ≡ power_rows e at → order ≡ in_order
     → columns ≡ in_order → Added e (length at) (take (length at * e) (powers ++ rest)) (take rows order) (take (length at) columns) gains old new
     → Shared rows e at gains old new
-shared rows e at gains powers rest order columns old new formula can told ho hc made =
+shared rows e at gains powers rest order columns old new formula few gains_room room told ho hc made =
     record {
       entries = λ t j ht hj.
-          ordered-added (take rows order) (λ i hi. first-at order ho rows can.few i (omega (arith, targets))) e m front (take m columns) gains old new
+          ordered-added (take rows order) (λ i hi. first-at order ho rows few i (omega (arith, targets))) e m front (take m columns) gains old new
           (fits (omega arith)) made t j (omega (arith, targets)) hj
           ∙ ap (add (cell e old t j))
           (product-first columns hc m formula.most e m front gains t j
@@ -55,13 +55,13 @@ shared rows e at gains powers rest order columns old new formula can told ho hc 
     hp = buffer-front (m * e) powers rest (ap length told ∙ length-power_rows e at) ∙ told
 
     targets : length (take rows order) ≡ rows
-    targets = first-length order ho rows can.few
+    targets = first-length order ho rows few
 
     fits : 0 < e → Fits e m (take rows order) (take m columns) (length front) (length gains) (length old)
     fits some =
         product-fits e m (length front) (length gains) (length old) (take rows order) (take m columns) some
-        (first-inside order ho rows can.few e rows (length old) (le_refl rows) (omega (arith, can.room)))
-        (omega (arith, first-length columns hc m formula.most)) (omega (arith, can.gains_room, ap (λ (n : ℕ). n * m) targets))
+        (first-inside order ho rows few e rows (length old) (le_refl rows) (omega (arith, room)))
+        (omega (arith, first-length columns hc m formula.most)) (omega (arith, gains_room, ap (λ (n : ℕ). n * m) targets))
         (first-inside columns hc m formula.most e m (length front) (le_refl m) (omega (arith, ap length hp ∙ length-power_rows e at)))
 
 -- ---- together

@@ -11,6 +11,18 @@ use Rattle.interpolation.specs.Lagrange.{coefs, apart, basis_value}
 unfoldable pub powers_of : ℕ → ℕ → List ℕ
 powers_of c m = tabulate m (λ j. pow c (suc j))
 
+-- points have one proof at most that they settle a polynomial
+Points-prop : (at : List ℕ) → IsProp (Points at)
+Points-prop at x y =
+    let bytes_prop : IsProp (Bytes at) = hlevel props in
+    let nonzero_prop : IsProp ((i : ℕ) → i < length at → get_or at i 0 ≡ 0 → ⊥) = hlevel props in
+    let distinct_prop : IsProp ((i j : ℕ) → i < length at → j < length at → get_or at i 0 ≡ get_or at j 0 → i ≡ j) = hlevel props in
+    λ i. record {
+      bytes = bytes_prop x.bytes y.bytes i;
+      nonzero = nonzero_prop x.nonzero y.nonzero i;
+      distinct = distinct_prop x.distinct y.distinct i;
+    }
+
 -- ---- from values to coefficients
 
 -- the coefficient at z^j of the product of all z - x, for the first d points x; none of them is 00, so that none is left out
@@ -30,6 +42,29 @@ pub record Widened (x : ℕ) (old new : List ℕ) : Type 0 where
 -- p is the product of all z - x, for the first d points x, as far as it goes
 abbrev pub Lowest : List ℕ → ℕ → List ℕ → Type 0
 Lowest points d p = (j : ℕ) → j < length p → get_or p j 0 ≡ product_at points d j
+
+-- p has the product's lowest coefficients for all points, at most 32, different and none of them 00: at least one coefficient, and no more than there are points
+pub record Multiplied (points p : List ℕ) : Type 0 where
+  pub some : 0 < length p
+  pub few : length p ≤ length points
+  pub most : length points ≤ 32
+  pub tell : Points points
+  pub lowest : Lowest points (length points) p
+
+-- it has one proof at most
+pub Multiplied-prop : (points p : List ℕ) → IsProp (Multiplied points p)
+Multiplied-prop points p x y =
+    let some_prop : IsProp (0 < length p) = hlevel props in
+    let few_prop : IsProp (length p ≤ length points) = hlevel props in
+    let most_prop : IsProp (length points ≤ 32) = hlevel props in
+    let lowest_prop : IsProp (Lowest points (length points) p) = hlevel props in
+    λ i. record {
+      some = some_prop x.some y.some i;
+      few = few_prop x.few y.few i;
+      most = most_prop x.most y.most i;
+      tell = Points-prop points x.tell y.tell i;
+      lowest = lowest_prop x.lowest y.lowest i;
+    }
 
 -- the columns of rows are the count lowest coefficients of the basis polynomials of the first d points
 abbrev pub BasisRows : ℕ → List ℕ → ℕ → List ℕ → Type 0
@@ -61,17 +96,6 @@ pub record Weighable (e : ℕ) (at : List ℕ) : Type 0 where
   pub most : length at ≤ 32
   pub tell : Points at
 
-Points-prop : (at : List ℕ) → IsProp (Points at)
-Points-prop at x y =
-    let bytes_prop : IsProp (Bytes at) = hlevel props in
-    let nonzero_prop : IsProp ((i : ℕ) → i < length at → get_or at i 0 ≡ 0 → ⊥) = hlevel props in
-    let distinct_prop : IsProp ((i j : ℕ) → i < length at → j < length at → get_or at i 0 ≡ get_or at j 0 → i ≡ j) = hlevel props in
-    λ i. record {
-      bytes = bytes_prop x.bytes y.bytes i;
-      nonzero = nonzero_prop x.nonzero y.nonzero i;
-      distinct = distinct_prop x.distinct y.distinct i;
-    }
-
 -- it has one proof at most
 pub Weighable-prop : (e : ℕ) (at : List ℕ) → IsProp (Weighable e at)
 Weighable-prop e at x y =
@@ -89,15 +113,21 @@ pub record Weighed (e : ℕ) (at : List ℕ) (n : ℕ) (weights : List ℕ) : Ty
   pub small : (o : ℕ) → o < n → get_or weights o 0 < 255
   pub power : (o : ℕ) → o < n → pow 2 (get_or weights o 0) ≡ apart e at (get_or at o 0) (get_or at o 0)
 
+-- it has one proof at most
+pub Weighed-prop : (e : ℕ) (at : List ℕ) (n : ℕ) (weights : List ℕ) → IsProp (Weighed e at n weights)
+Weighed-prop e at n weights x y =
+    let room_prop : IsProp (length at ≤ length weights) = hlevel props in
+    let small_prop : IsProp ((o : ℕ) → o < n → get_or weights o 0 < 255) = hlevel props in
+    let power_prop : IsProp ((o : ℕ) → o < n → pow 2 (get_or weights o 0) ≡ apart e at (get_or at o 0) (get_or at o 0)) = hlevel props in
+    λ i. record {
+      room = room_prop x.room y.room i;
+      small = small_prop x.small y.small i;
+      power = power_prop x.power y.power i;
+    }
+
 -- what the value at each point of `at` counts at the target: the Lagrange basis values there
 unfoldable pub basis_values : ℕ → List ℕ → ℕ → List ℕ
 basis_values e at target = tabulate (length at) (λ o. basis_value e at (get_or at o 0) target)
-
--- what such a row asks, with the weights found before
-pub record Findable (e : ℕ) (at weights : List ℕ) (target : ℕ) (gains : List ℕ) : Type 0 where
-  pub weighed : Weighed e at (length at) weights
-  pub nonzero : target ≡ 0 → ⊥
-  pub room : length gains ≡ length at
 
 -- a row for each target
 unfoldable pub basis_value_rows : ℕ → List ℕ → List ℕ → List ℕ
@@ -126,12 +156,6 @@ pub record Carriable (at targets gains : List ℕ) : Type 0 where
 pub record Shared (rows e : ℕ) (at gains old new : List ℕ) : Type 0 where
   pub entries : (t j : ℕ) → t < rows → j < e
       → cell e new t j ≡ add (cell e old t j) (sum (length at) (λ o. mul (cell (length at) gains t o) (pow (get_or at o 0) (suc j))))
-
--- what this asks
-pub record Sharable (rows e : ℕ) (at gains leading : List ℕ) : Type 0 where
-  pub few : rows ≤ 32
-  pub gains_room : length gains ≡ rows * length at
-  pub room : length leading ≡ rows * e
 
 -- old with g times the powers 1, 2, .. of x added
 unfoldable pub with_powers : ℕ → ℕ → List ℕ → List ℕ

@@ -1,9 +1,10 @@
-// From leading coefficients and values at some points to values at others.
+// From leading coefficients and values at some points to values at others. Rows and entries are written by their numbers: of what is written through chunks_mut, or
+// through a zip with iter_mut, nothing is proved.
 ghost use Rattle.std.specs.Prelude.{◌≡◌, ◌*◌, ◌≤◌, length};
 ghost use Rattle.interpolation.specs.Polynomial.{Points};
 ghost use Rattle.points.specs.Lists.{Among};
 ghost use Rattle.coefficients.specs.Coefficients.{Extends, Roomy};
-ghost use Rattle.coefficients.specs.Working.{unit_row, basis_values, basis_value_rows, Weighed, Findable, Carries, Carriable, with_powers, with_share, Shared, Sharable};
+ghost use Rattle.coefficients.specs.Working.{unit_row, basis_values, basis_value_rows, Weighed, Weighed-prop, Carries, Carriable, with_powers, with_share, Shared};
 
 use crate::distances::Anchors;
 use crate::raising::fill_rows;
@@ -21,7 +22,13 @@ pub(crate) fn complete(e: usize, at: &[u8], targets: &[u8], leading: &mut [u8], 
     let anchors = Anchors { e, at };
     fill_rows(targets, e, leading);
     anchors.gain_rows(targets, gains);
-    anchors.add_share(targets.len(), gains, leading);
+    let rows = targets.len();
+    let carried = Gains {
+        anchors,
+        rows,
+        gains,
+    };
+    carried.add_share(leading);
 }
 
 impl Anchors<'_> {
@@ -31,112 +38,138 @@ impl Anchors<'_> {
         requires { Carriable self.now.at.now targets.now gains.old }
         ensures { Carries self.now.e self.now.at.now targets.now gains.new }
     {
-        let mut weights = [0u8; 32];
-        self.weigh(&mut weights);
-        self.fill_gains(&weights, targets, gains);
+        let weights = Weights {
+            anchors: *self,
+            exponents: self.weigh(),
+        };
+        weights.fill_gains(targets, gains);
     }
 
-    // weights := for each point the exponent of the inverse of its barycentric weight.
-    fn weigh(&self, weights: &mut [u8])
-        requires { length weights.old ≡ 32 }
-        ensures { Weighed self.now.e self.now.at.now (length self.now.at.now) weights.new }
+    // For each point the exponent of the inverse of its barycentric weight.
+    fn weigh(&self) -> [u8; 32]
+        ensures { Weighed self.now.e self.now.at.now (length self.now.at.now) result }
     {
+        let mut weights = [0u8; 32];
         for (i, x) in self.at.iter().enumerate() {
             weights[i] = self.apart_exponent(*x).value as u8;
         }
+        weights
     }
+}
 
+// The points of `at` with these exponents.
+#[derive(Clone, Copy)]
+struct Weights<'a> {
+    anchors: Anchors<'a>,
+    exponents: [u8; 32],
+    ghost weighed: { Weighed anchors.e anchors.at.now (length anchors.at.now) exponents } by { Weighed-prop anchors.e anchors.at.now (length anchors.at.now) exponents },
+}
+
+impl Weights<'_> {
     // gains := a row for each target.
-    fn fill_gains(&self, weights: &[u8], targets: &[u8], gains: &mut [u8])
-        requires carriable { Carriable self.now.at.now targets.now gains.old }
-        requires weighed { Weighed self.now.e self.now.at.now (length self.now.at.now) weights.now }
-        ensures { gains.new ≡ basis_value_rows self.now.e self.now.at.now targets.now }
+    fn fill_gains(&self, targets: &[u8], gains: &mut [u8])
+        requires { Carriable self.now.anchors.at.now targets.now gains.old }
+        ensures { gains.new ≡ basis_value_rows self.now.anchors.e self.now.anchors.at.now targets.now }
     {
-        let m = self.at.len();
+        let m = self.anchors.at.len();
         for (t, target) in targets.iter().enumerate() {
             let first = t * m;
             let end = first + m;
-            self.fill_gain(weights, *target, &mut gains[first..end]);
+            self.fill_gain(*target, &mut gains[first..end]);
         }
     }
 
     // gains := the row of one target.
-    fn fill_gain(&self, weights: &[u8], target: u8, gains: &mut [u8])
-        requires { Findable self.now.e self.now.at.now weights.now target gains.old }
-        ensures { gains.new ≡ basis_values self.now.e self.now.at.now target }
+    fn fill_gain(&self, target: u8, gains: &mut [u8])
+        requires nonzero { target ≡ 0 → ⊥ }
+        requires room { length gains.old ≡ length self.now.anchors.at.now }
+        ensures { gains.new ≡ basis_values self.now.anchors.e self.now.anchors.at.now target }
     {
-        if lists(self.at, target) {
-            fill_unit(self.at, target, gains);
+        if lists(self.anchors.at, target) {
+            fill_unit(self.anchors.at, target, gains);
             return;
         }
-        self.fill_apart(weights, target, gains);
+        self.fill_apart(target, gains);
     }
 
     // A target that is none of the points: the product of all t - d, without the point's own factor, times the point's barycentric weight.
-    fn fill_apart(&self, weights: &[u8], target: u8, gains: &mut [u8])
-        requires findable { Findable self.now.e self.now.at.now weights.now target gains.old }
-        requires apart { Among (length self.now.at.now) self.now.at.now target → ⊥ }
-        ensures { gains.new ≡ basis_values self.now.e self.now.at.now target }
+    fn fill_apart(&self, target: u8, gains: &mut [u8])
+        requires nonzero { target ≡ 0 → ⊥ }
+        requires room { length gains.old ≡ length self.now.anchors.at.now }
+        requires apart { Among (length self.now.anchors.at.now) self.now.anchors.at.now target → ⊥ }
+        ensures { gains.new ≡ basis_values self.now.anchors.e self.now.anchors.at.now target }
     {
-        let at = self.at;
-        let whole = self.apart_exponent(target);
+        let at = self.anchors.at;
+        let whole = self.anchors.apart_exponent(target);
         for (j, gain) in gains.iter_mut().enumerate() {
             let weight = Exponent {
-                value: usize::from(weights[j]),
+                value: usize::from(self.exponents[j]),
             };
             let parts = weight + Exponent::of(target ^ at[j]);
             *gain = (whole + -parts).power();
         }
     }
+}
 
+// A row of gains for each of at most 32 targets.
+#[derive(Clone, Copy)]
+struct Gains<'a> {
+    anchors: Anchors<'a>,
+    rows: usize,
+    gains: &'a [u8],
+    ghost few: { rows ≤ 32 },
+    ghost room: { length gains.now ≡ rows * length anchors.at.now },
+}
+
+impl Gains<'_> {
     // leading += gains times the powers 1, .., e of the points of `at`.
-    fn add_share(&self, rows: usize, gains: &[u8], leading: &mut [u8])
-        requires { Sharable rows self.now.e self.now.at.now gains.now leading.old }
-        ensures { Shared rows self.now.e self.now.at.now gains.now leading.old leading.new }
+    fn add_share(&self, leading: &mut [u8])
+        requires { length leading.old ≡ self.now.rows * self.now.anchors.e }
+        ensures { Shared self.now.rows self.now.anchors.e self.now.anchors.at.now self.now.gains.now leading.old leading.new }
     {
-        if self.at.len() * self.e <= 32 {
-            self.add_row_shares(rows, gains, leading);
+        if self.anchors.at.len() * self.anchors.e <= 32 {
+            self.add_row_shares(leading);
             return;
         }
         let mut powers = [0u8; 1024];
-        self.share_within(rows, gains, &mut powers, leading);
+        self.share_within(&mut powers, leading);
     }
 
     // The same, row by row: for few powers.
-    fn add_row_shares(&self, rows: usize, gains: &[u8], leading: &mut [u8])
-        requires { Sharable rows self.now.e self.now.at.now gains.now leading.old }
-        ensures { Shared rows self.now.e self.now.at.now gains.now leading.old leading.new }
+    fn add_row_shares(&self, leading: &mut [u8])
+        requires { length leading.old ≡ self.now.rows * self.now.anchors.e }
+        ensures { Shared self.now.rows self.now.anchors.e self.now.anchors.at.now self.now.gains.now leading.old leading.new }
     {
-        let e = self.e;
-        let m = self.at.len();
-        for t in 0..rows {
+        let Anchors { e, at } = self.anchors;
+        let m = at.len();
+        for t in 0..self.rows {
             let first = t * e;
             let end = first + e;
             let start = t * m;
             let stop = start + m;
-            add_row_share(self.at, &gains[start..stop], &mut leading[first..end]);
+            add_row_share(at, &self.gains[start..stop], &mut leading[first..end]);
         }
     }
 
     // The same as add_share, through one product, with room for the powers: for many of them.
-    fn share_within(&self, rows: usize, gains: &[u8], powers: &mut [u8], leading: &mut [u8])
-        requires sharable { Sharable rows self.now.e self.now.at.now gains.now leading.old }
-        requires e_in_bounds { length self.now.at.now * self.now.e ≤ length powers.old }
-        ensures { Shared rows self.now.e self.now.at.now gains.now leading.old leading.new }
+    fn share_within(&self, powers: &mut [u8], leading: &mut [u8])
+        requires room { length leading.old ≡ self.now.rows * self.now.anchors.e }
+        requires e_in_bounds { length self.now.anchors.at.now * self.now.anchors.e ≤ length powers.old }
+        ensures { Shared self.now.rows self.now.anchors.e self.now.anchors.at.now self.now.gains.now leading.old leading.new }
     {
-        let e = self.e;
-        let m = self.at.len();
+        let Anchors { e, at } = self.anchors;
+        let m = at.len();
         let area = m * e;
-        fill_rows(self.at, e, &mut powers[..area]);
+        fill_rows(at, e, &mut powers[..area]);
         let order = in_order();
         let columns = in_order();
         add_product(
             leading,
-            &order[..rows],
+            &order[..self.rows],
             e,
             &powers[..area],
             &columns[..m],
-            gains,
+            self.gains,
             m,
         );
     }

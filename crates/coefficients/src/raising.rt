@@ -5,7 +5,7 @@ ghost use Rattle.coefficients.specs.Working.{powers_of};
 
 use tables::Exponent;
 
-// out := a row for each point: its powers 1, .., m.
+// out := a row for each point: its powers 1, .., m. The rows are ranges of out, since chunks_mut takes no m of 0, and nothing is proved of what is written through it.
 pub(crate) fn fill_rows(points: &[u8], m: usize, out: &mut [u8])
     requires { length out.old ≡ length points.now * m }
     ensures { out.new ≡ power_rows m points.now }

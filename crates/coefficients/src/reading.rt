@@ -4,10 +4,10 @@
 // that the quotient, times z, has at the point. That takes a number of steps that grows with the square of the number of points, where elimination takes its
 // cube.
 // A point is told by its exponent.
-ghost use Rattle.std.specs.Prelude.{◌≡◌, ℕ, ◌<◌, length, get_or};
+ghost use Rattle.std.specs.Prelude.{◌≡◌, ℕ, ◌*◌, ◌<◌, length, get_or};
 ghost use Rattle.field.specs.Field.{pow};
 ghost use Rattle.interpolation.specs.Polynomial.{Points};
-ghost use Rattle.coefficients.specs.Working.{product_at, Widened, Lowest, BasisRows, BasisPut, Columned};
+ghost use Rattle.coefficients.specs.Working.{product_at, Widened, Lowest, Multiplied, Multiplied-prop, BasisRows, BasisPut, Columned};
 
 use crate::distances::Anchors;
 use tables::Exponent;
@@ -19,7 +19,11 @@ pub(crate) fn basis_rows(points: &[u8], count: usize, rows: &mut [u8])
 {
     let mut product = [0u8; 32];
     multiply_out(points, &mut product[..count]);
-    fill_columns(points, &product[..count], rows);
+    let product = Product {
+        points,
+        lowest: &product[..count],
+    };
+    product.fill_columns(rows);
 }
 
 // product := the product of all z - x, as far as it goes. It is handed in as zeros.
@@ -46,34 +50,43 @@ fn widen(x: Exponent, p: &mut [u8])
     p[0] = x.times(p[0]);
 }
 
-// Column by column, from the exponent of the product's lowest coefficient: that is the product of all points, and so not 00.
-fn fill_columns(points: &[u8], product: &[u8], rows: &mut [u8])
-    requires columned { Columned (length product.now) points.now rows.old }
-    requires lowest { Lowest points.now (length points.now) product.now }
-    ensures { BasisRows (length product.now) points.now (length points.now) rows.new }
-{
-    let first = Exponent::of(product[0]);
-    for i in 0..points.len() {
-        fill_column(points, i, first, product, rows);
-    }
+// The lowest coefficients of the product of all z - x, as many as are wanted of each basis polynomial.
+#[derive(Clone, Copy)]
+struct Product<'a> {
+    points: &'a [u8],
+    lowest: &'a [u8],
+    ghost multiplied: { Multiplied points.now lowest.now } by { Multiplied-prop points.now lowest.now },
 }
 
-// Column i of rows := the lowest coefficients of point i's basis polynomial. They belong to the powers from 1 on: it is z times the quotient, divided by what that
-// is at the point. Each coefficient of the product is one of the quotient less the point times the next one.
-fn fill_column(points: &[u8], i: usize, first: Exponent, product: &[u8], rows: &mut [u8])
-    requires columned { Columned (length product.now) points.now rows.old }
-    requires i_in_bounds { i < length points.now }
-    requires first { pow 2 first.value ≡ product_at points.now (length points.now) 0 }
-    requires lowest { Lowest points.now (length points.now) product.now }
-    ensures { BasisPut (length product.now) points.now i rows.old rows.new }
-{
-    let anchors = Anchors { e: 0, at: points };
-    let back = -Exponent::of(points[i]);
-    let scale = -anchors.apart_exponent(points[i]);
-    let mut lead = (first + scale + back).power();
-    rows[i] = lead;
-    for j in 1..product.len() {
-        lead = back.times(lead ^ scale.times(product[j]));
-        rows[j * points.len() + i] = lead;
+impl Product<'_> {
+    // Column by column, from the exponent of the product's lowest coefficient: that is the product of all points, and so not 00.
+    fn fill_columns(&self, rows: &mut [u8])
+        requires { length rows.old ≡ length self.now.lowest.now * length self.now.points.now }
+        ensures { BasisRows (length self.now.lowest.now) self.now.points.now (length self.now.points.now) rows.new }
+    {
+        let first = Exponent::of(self.lowest[0]);
+        for i in 0..self.points.len() {
+            self.fill_column(i, first, rows);
+        }
+    }
+
+    // Column i of rows := the lowest coefficients of point i's basis polynomial. They belong to the powers from 1 on: it is z times the quotient, divided by what that
+    // is at the point. Each coefficient of the product is one of the quotient less the point times the next one.
+    fn fill_column(&self, i: usize, first: Exponent, rows: &mut [u8])
+        requires i_in_bounds { i < length self.now.points.now }
+        requires first { pow 2 first.value ≡ product_at self.now.points.now (length self.now.points.now) 0 }
+        requires room { length rows.old ≡ length self.now.lowest.now * length self.now.points.now }
+        ensures { BasisPut (length self.now.lowest.now) self.now.points.now i rows.old rows.new }
+    {
+        let Product { points, lowest } = *self;
+        let anchors = Anchors { e: 0, at: points };
+        let back = -Exponent::of(points[i]);
+        let scale = -anchors.apart_exponent(points[i]);
+        let mut lead = (first + scale + back).power();
+        rows[i] = lead;
+        for j in 1..lowest.len() {
+            lead = back.times(lead ^ scale.times(lowest[j]));
+            rows[j * points.len() + i] = lead;
+        }
     }
 }

@@ -1,7 +1,7 @@
 -- After t turns the first t rows have their share. Assumes nothing.
 use Rattle.base.specs.Parts.{Blocked}
 use Rattle.coefficients.proofs.Shares.{entry}
-use Rattle.coefficients.proofs.distances.Anchors.add_row_shares.Given as goal
+use Rattle.coefficients.proofs.completing.Gains.add_row_shares.Given as goal
 
 abbrev pub invariant-loop-t : goal.invariant-loop-t
-invariant-loop-t l = Blocked l.e l.rows (entry l.e l.self.at.now l.gains l.initial.leading) l.t l.initial.leading l.leading
+invariant-loop-t l = Blocked l.e l.self.rows (entry l.e l.at l.self.gains.now l.initial.leading) l.t l.initial.leading l.leading
