@@ -6,7 +6,7 @@ ghost use Rattle.placing.specs.Placed.{BlocksIn, PutPost, ClearPost, ComparePost
 
 use base::is_product;
 use block_numbers::places_of;
-use blocks::{clear, copy_block};
+use blocks::{clear, copy_block, differs};
 use params::{Node, NodeSet};
 
 // Whether a slice of this length has the block of each of the set's nodes. It has no blocks of 0 bytes.
@@ -71,7 +71,7 @@ pub fn first_other(codeword: &[u8], set: NodeSet, fresh: &[u8], b: usize) -> Opt
     places_of(set, &mut places);
     for (place, block) in places.iter().zip(fresh.chunks_exact(b)) {
         let at = usize::from(*place) * b;
-        if block != &codeword[at..at + b] {
+        if differs(block, &codeword[at..at + b]) {
             return Some(Node(*place + 1));
         }
     }

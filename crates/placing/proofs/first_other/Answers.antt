@@ -1,4 +1,3 @@
-use Rattle.std.proofs.Common.{rules}
 use mathlib.Core.Path.{ap}
 use mathlib.Core.Bool.{not}
 use Prim.Native.Nat.{◌+◌}
@@ -33,8 +32,8 @@ pub overflow_add-at : goal.overflow_add-at
 overflow_add-at c =
     omega (arith, ends (turned c.loop-place.invariant.2.1 (c.in-Some.place, c.in-Some.block) c.next.new.self c.in-Some.ensures.steps c.from.ensures))
 
-pub slice_bounds-ne-end : goal.slice_bounds-ne-end
-slice_bounds-ne-end c =
+pub slice_bounds-differs-end : goal.slice_bounds-differs-end
+slice_bounds-differs-end c =
     ends (turned c.loop-place.invariant.2.1 (c.in-Some.place, c.in-Some.block) c.next.new.self c.in-Some.ensures.steps c.from.ensures)
 
 pub overflow_add-result : goal.overflow_add-result
@@ -42,18 +41,18 @@ overflow_add-result c =
     let t = turned c.loop-place.invariant.2.1 (c.in-Some.place, c.in-Some.block) c.next.new.self c.in-Some.ensures.steps c.from.ensures in
     omega (arith, has-le 32 _ _ t.fit.listed.word (at t).0, c.from.ensures)
 
-pub returns-then-ne : goal.returns-then-ne
-returns-then-ne c =
+pub returns-then-differs : goal.returns-then-differs
+returns-then-differs c =
     let l = c.loop-place.invariant.2 in
     let t = turned l.1 (c.in-Some.place, c.in-Some.block) c.next.new.self c.in-Some.ensures.steps c.from.ensures in
-    found t l.2 _ (omega (arith, c.from.ensures)) (λ e. search (rules, c.ne.ensures))
+    found t l.2 _ (omega (arith, c.from.ensures)) (c.differs.ensures.other c.if-differs.true)
 
 pub loop-place-preserved : goal.loop-place-preserved
 loop-place-preserved c =
     let l = c.loop-place.invariant.2 in
     let t = turned l.1 (c.in-Some.place, c.in-Some.block) c.next.new.self c.in-Some.ensures.steps c.from.ensures in
     let g = go_on l.1 (c.in-Some.place, c.in-Some.block) c.next.new.self c.in-Some.ensures.steps in
-    ((tt, some_bytes g), tt, (l.0 + 1, g, passed-more t l.2 (search rules)))
+    ((tt, some_bytes g), tt, (l.0 + 1, g, passed-more t l.2 (c.differs.ensures.same c.if-differs.false)))
 
 pub returns : goal.returns
 returns c = let l = c.loop-place.invariant.2 in passed-all l.1.fit (ended l.1 c.next.new.self c.in-None.ensures.steps) l.2
