@@ -18,9 +18,8 @@ use searching::search;
 pub fn check(a: Params, codeword: &[u8], budget: usize) -> Verdict
     ensures { CheckPost a codeword.now budget result }
 {
-    let refusal = check_gate(a, codeword.len());
-    if refusal != 0 {
-        return Verdict::Refused(refusal);
+    if let Err(q) = check_gate(a, codeword.len()) {
+        return Verdict::Refused(u32::from(q));
     }
     let size = (a.n - a.working()) * a.b;
     let blame = if size <= 128 {

@@ -4,27 +4,25 @@
 
 ghost use Rattle.std.specs.Prelude.{◌*◌, ◌≤◌, length};
 ghost use Rattle.params.specs.Nodes.{size};
+ghost use Rattle.gates.specs.Refusals.{answer};
 ghost use Rattle.code.specs.Calls.{DecodePost};
 ghost use Rattle.decoding.specs.Cores.{Decodable, Recovered};
 
 use block_numbers::{in_order, places_of};
 use blocks::clear;
-use gates::decode_gate;
+use gates::{Refusal, decode_gate};
 use kernels::add_product;
 use node_rows::decoding_rows;
 use params::{NodeSet, Params};
 
 // Reads the message from the blocks of from's q lowest nodes, q the working number, whichever bytes they and the others hold. A refusal leaves out as it was.
-pub fn decode(a: Params, codeword: &[u8], from: NodeSet, out: &mut [u8]) -> u32
-    ensures { DecodePost a codeword.now from.0 out.old result out.new }
+pub fn decode(a: Params, codeword: &[u8], from: NodeSet, out: &mut [u8]) -> Result<(), Refusal>
+    ensures { DecodePost a codeword.now from.0 out.old (answer result) out.new }
 {
-    let refusal = decode_gate(a, codeword.len(), out.len(), from);
-    if refusal != 0 {
-        return refusal;
-    }
+    decode_gate(a, codeword.len(), out.len(), from)?;
     let chosen = from.lowest(a.working());
     decode_parts(a, codeword, chosen, out);
-    0
+    Ok(())
 }
 
 // Reads the message from as many nodes as message and slack have parts. Room for the rows that take their blocks to the message is no more than is wanted, since

@@ -4,12 +4,13 @@
 
 ghost use Rattle.std.specs.Prelude.{◌+◌, ◌*◌, ◌≤◌, length, take, drop};
 ghost use Rattle.params.specs.Params.{working};
+ghost use Rattle.gates.specs.Refusals.{answer};
 ghost use Rattle.code.specs.Calls.{EncodePost, Encoded};
 ghost use Rattle.encoding.specs.Cores.{Encodable, Raisable};
 
 use block_numbers::in_order;
 use blocks::{clear, copy_block};
-use gates::encode_gate;
+use gates::{Refusal, encode_gate};
 use kernels::add_product;
 use node_rows::encoding_rows;
 use params::Params;
@@ -22,16 +23,13 @@ pub fn encode(
     slack: &[u8],
     codeword: &mut [u8],
     serials: &mut [u32],
-) -> u32
-    ensures { EncodePost a message.now slack.now codeword.old serials.old result codeword.new serials.new }
+) -> Result<(), Refusal>
+    ensures { EncodePost a message.now slack.now codeword.old serials.old (answer result) codeword.new serials.new }
 {
-    let refusal = encode_gate(a, message.len(), slack.len(), codeword.len(), serials.len());
-    if refusal != 0 {
-        return refusal;
-    }
+    encode_gate(a, message.len(), slack.len(), codeword.len(), serials.len())?;
     encode_blocks(a, message, slack, codeword);
     clear_serials(serials);
-    0
+    Ok(())
 }
 
 // Makes room for message and slack side by side, about as much as is wanted, since room is cleared at each call.

@@ -84,8 +84,8 @@ pub params-yes : (a : Params) {R : Type 0} → Valid a → R → YesAnd (params_
 params-yes a v y = shape-yes 0 (shape_of a) v.shape (ap₂ ◌&&◌ (le-leb _ _ v.b_low) (le-leb _ _ v.b_high), y)
 
 -- the answer 0 of the questions 1 to 5
-pub valid-of : (a : Params) {g : ℕ} → g ≡ first_no (params_asked a) → g ≡ 0 → Valid a
-valid-of a e z = (params-known a (all_yes (params_asked a) tt (sym e ∙ z))).0
+pub valid-of : (a : Params) → 0 ≡ first_no (params_asked a) → Valid a
+valid-of a e = (params-known a (all_yes (params_asked a) tt (sym e))).0
 
 -- what check asks
 abbrev pub check_asked : Params → ℕ → List Question

@@ -1,14 +1,12 @@
-// Document 01's questions at the gate, one function for each call: it gives the number of the first question whose answer is no, or 0. It sees numbers, sets and
-// lengths only.
+// Document 01's questions at the gate, one function for each call: it refuses by the first question whose answer is no. It sees numbers, sets and lengths only.
 #![tactic(auto)]
 
-ghost use Rattle.std.specs.Prelude.{◌≡◌, ◌&&◌, [], ◌∷◌, ◌++◌, ◌*◌, ◌≤◌, eqb};
+ghost use Rattle.std.specs.Prelude.{◌≡◌, [], ◌∷◌, ◌+◌, ◌≤◌, eqb};
 ghost use Rattle.base.specs.Gate.{ask, first_no};
 ghost use Rattle.params.specs.Nodes.{size, within};
-ghost use Rattle.gates.specs.Gates.{params_asked, lengths_asked, names_asked, sizes_asked, node_asked};
+ghost use Rattle.gates.specs.Gates.{shape_asked, params_asked, names_asked, sizes_asked, node_asked};
 ghost use Rattle.gates.specs.Gates.{encode_gate, check_gate, decode_gate, delta_gate, update_gate, repair_gate, view_gate, reconfigure_gate, damage_gate};
-ghost use Rattle.gates.specs.Valid.{Valid};
-ghost use Rattle.gates.specs.Refusals.{number};
+ghost use Rattle.gates.specs.Refusals.{number, answer};
 
 use params::{Node, NodeSet, Params, Shape};
 
@@ -52,115 +50,109 @@ impl From<Refusal> for u32 {
     }
 }
 
-// Questions 1 to 5.
-fn params_gate(a: Params) -> u32
-    ensures { result ≡ first_no (params_asked a) }
-{
-    if (a.n < 1) | (32 < a.n) {
-        return 1;
+impl Refusal {
+    // Of the first four, what it is for new parameters.
+    fn for_new(self) -> Refusal
+        ensures { number self ≤ 4 → number result ≡ 10 + number self }
+    {
+        match self {
+            Refusal::NodeCount => Refusal::NewNodeCount,
+            Refusal::ReadOrWriteCount => Refusal::NewReadOrWriteCount,
+            Refusal::MessageParts => Refusal::NewMessageParts,
+            Refusal::SharedNodes => Refusal::NewSharedNodes,
+            other => other,
+        }
     }
-    if (a.n < a.r) | (a.n < a.w) {
-        return 2;
-    }
-    if (a.k < 1) | (a.r < a.k) | (a.w < a.k) {
-        return 3;
-    }
-    if a.r + a.w < a.k + a.n {
-        return 4;
-    }
-    if (a.b < 1) | (1024 < a.b) {
-        return 5;
-    }
-    0
 }
 
-// Questions 6 to 9 from their answers; a call that does not put one of them gives yes for it.
-fn answers_gate(lengths: bool, names: bool, sizes: bool, free: bool) -> u32
-    ensures { result ≡ first_no (lengths_asked lengths ∷ names_asked names ∷ sizes_asked sizes ∷ ask free 9 ∷ []) }
+// One question: this refusal where the answer is no.
+fn put(yes: bool, no: Refusal) -> Result<(), Refusal>
+    ensures { answer result ≡ first_no (ask yes (number no) ∷ []) }
 {
-    if !lengths {
-        return 6;
-    }
-    if !names {
-        return 7;
-    }
-    if !sizes {
-        return 8;
-    }
-    if !free {
-        return 9;
-    }
-    0
+    if yes { Ok(()) } else { Err(no) }
+}
+
+// Questions 1 to 4.
+fn shape_gate(t: Shape) -> Result<(), Refusal>
+    ensures { answer result ≡ first_no (shape_asked 0 t) }
+{
+    put((1 <= t.n) & (t.n <= 32), Refusal::NodeCount)?;
+    put((t.r <= t.n) & (t.w <= t.n), Refusal::ReadOrWriteCount)?;
+    put(
+        (1 <= t.k) & (t.k <= t.r) & (t.k <= t.w),
+        Refusal::MessageParts,
+    )?;
+    put(t.k + t.n <= t.r + t.w, Refusal::SharedNodes)
+}
+
+// Questions 11 to 14: the first four for new parameters.
+fn new_shape_gate(t: Shape) -> Result<(), Refusal>
+    ensures { answer result ≡ first_no (shape_asked 10 t) }
+{
+    shape_gate(t).map_err(Refusal::for_new)
+}
+
+// Questions 1 to 5.
+fn params_gate(a: Params) -> Result<(), Refusal>
+    ensures { answer result ≡ first_no (params_asked a) }
+{
+    shape_gate(a.shape())?;
+    put((1 <= a.b) & (a.b <= 1024), Refusal::BlockSize)
+}
+
+// Questions 7 and 8 of one set.
+fn set_gate(n: usize, set: NodeSet, wanted: usize) -> Result<(), Refusal>
+    ensures { answer result ≡ first_no (names_asked (within n set.0) ∷ sizes_asked (eqb (size set.0) wanted) ∷ []) }
+{
+    put(set.within(n), Refusal::NodeAboveN)?;
+    put(set.size() == wanted, Refusal::SetSize)
 }
 
 // Set-up, with the lengths of message, slack, record and serials.
-pub fn encode_gate(a: Params, message: usize, slack: usize, codeword: usize, serials: usize) -> u32
-    ensures { result ≡ encode_gate a message slack codeword serials }
+pub fn encode_gate(
+    a: Params,
+    message: usize,
+    slack: usize,
+    codeword: usize,
+    serials: usize,
+) -> Result<(), Refusal>
+    ensures { answer result ≡ encode_gate a message slack codeword serials }
 {
-    let params = params_gate(a);
-    if params != 0 {
-        return params;
-    }
-    answers_gate(
+    params_gate(a)?;
+    put(
         (serials == a.n)
             & ((message == a.k * a.b) & (slack == a.slack_parts() * a.b) & (codeword == a.n * a.b)),
-        true,
-        true,
-        true,
+        Refusal::Length,
     )
 }
 
 // Check, with the record's length.
-pub fn check_gate(a: Params, codeword: usize) -> u32
-    ensures { result ≡ check_gate a codeword }
+pub fn check_gate(a: Params, codeword: usize) -> Result<(), Refusal>
+    ensures { answer result ≡ check_gate a codeword }
 {
-    let params = params_gate(a);
-    if params != 0 {
-        return params;
-    }
-    answers_gate(codeword == a.n * a.b, true, true, true)
-}
-
-// Questions 1 to 8 of a call with one set and two slices of bytes: the first is to have x blocks, the second y. Whether all else that is lent has its length is
-// told by others.
-fn set_call_gate(
-    a: Params,
-    others: bool,
-    first: usize,
-    x: usize,
-    second: usize,
-    y: usize,
-    set: NodeSet,
-    wanted: usize,
-) -> u32
-    requires { Valid a → (x ≤ a.n) × (y ≤ a.n) }
-    ensures { result ≡ first_no (params_asked a ++ lengths_asked (others && (eqb first (x * a.b) && eqb second (y * a.b))) ∷
-        names_asked (within a.n set.0) ∷ sizes_asked (eqb (size set.0) wanted) ∷ []) }
-{
-    let params = params_gate(a);
-    if params != 0 {
-        return params;
-    }
-    answers_gate(
-        others & ((first == x * a.b) & (second == y * a.b)),
-        set.within(a.n),
-        set.size() == wanted,
-        true,
-    )
+    params_gate(a)?;
+    put(codeword == a.n * a.b, Refusal::Length)
 }
 
 // Reading, with the lengths of the record and of the buffer for the message, and R.
-pub fn decode_gate(a: Params, codeword: usize, out: usize, from: NodeSet) -> u32
-    ensures { result ≡ decode_gate a codeword out from.0 }
+pub fn decode_gate(a: Params, codeword: usize, out: usize, from: NodeSet) -> Result<(), Refusal>
+    ensures { answer result ≡ decode_gate a codeword out from.0 }
 {
-    set_call_gate(a, true, codeword, a.n, out, a.k, from, a.r)
+    params_gate(a)?;
+    put(
+        (codeword == a.n * a.b) & (out == a.k * a.b),
+        Refusal::Length,
+    )?;
+    set_gate(a.n, from, a.r)
 }
 
 // Difference, with the lengths of d and of the buffer for the differences, and W.
-pub fn delta_gate(a: Params, change: usize, out: usize, to: NodeSet) -> u32
-    ensures { result ≡ delta_gate a change out to.0 }
+pub fn delta_gate(a: Params, change: usize, out: usize, to: NodeSet) -> Result<(), Refusal>
+    ensures { answer result ≡ delta_gate a change out to.0 }
 {
-    set_call_gate(a, true, change, a.k, out, a.w, to, a.w)
+    params_gate(a)?;
+    put((change == a.k * a.b) & (out == a.w * a.b), Refusal::Length)?;
+    set_gate(a.n, to, a.w)
 }
 
 // Change, with the lengths of record, serials and d, W and the serial.
@@ -171,56 +163,49 @@ pub fn update_gate(
     change: usize,
     to: NodeSet,
     serial: u32,
-) -> u32
-    ensures { result ≡ update_gate a codeword serials change to.0 serial }
+) -> Result<(), Refusal>
+    ensures { answer result ≡ update_gate a codeword serials change to.0 serial }
 {
-    let refusal = set_call_gate(a, serials == a.n, codeword, a.n, change, a.k, to, a.w);
-    if refusal != 0 {
-        return refusal;
-    }
-    if serial < 1 {
-        return 24;
-    }
-    0
+    params_gate(a)?;
+    put(
+        (serials == a.n) & ((codeword == a.n * a.b) & (change == a.k * a.b)),
+        Refusal::Length,
+    )?;
+    set_gate(a.n, to, a.w)?;
+    put(1 <= serial, Refusal::SerialZero)
 }
 
 // Rebuild, with the lengths of record and serials, R and L.
-pub fn repair_gate(a: Params, codeword: usize, serials: usize, from: NodeSet, lost: NodeSet) -> u32
-    ensures { result ≡ repair_gate a codeword serials from.0 lost.0 }
+pub fn repair_gate(
+    a: Params,
+    codeword: usize,
+    serials: usize,
+    from: NodeSet,
+    lost: NodeSet,
+) -> Result<(), Refusal>
+    ensures { answer result ≡ repair_gate a codeword serials from.0 lost.0 }
 {
-    let params = params_gate(a);
-    if params != 0 {
-        return params;
-    }
-    answers_gate(
-        (serials == a.n) & (codeword == a.n * a.b),
-        from.within(a.n) & lost.within(a.n),
-        from.size() == a.r,
-        lost.disjoint(from),
-    )
+    params_gate(a)?;
+    put((serials == a.n) & (codeword == a.n * a.b), Refusal::Length)?;
+    put(from.within(a.n) & lost.within(a.n), Refusal::NodeAboveN)?;
+    put(from.size() == a.r, Refusal::SetSize)?;
+    put(lost.disjoint(from), Refusal::LostIsRead)
 }
 
 // Question 10 alone.
-fn node_gate(n: usize, node: Node) -> u32
-    ensures { result ≡ first_no (node_asked n node.0 ∷ []) }
+fn node_gate(n: usize, node: Node) -> Result<(), Refusal>
+    ensures { answer result ≡ first_no (node_asked n node.0 ∷ []) }
 {
-    let number = node.0 as usize;
-    if (number < 1) | (n < number) {
-        return 10;
-    }
-    0
+    let number = usize::from(node.0);
+    put((1 <= number) & (number <= n), Refusal::NodeNumber)
 }
 
 // View, with the record's length and the trap number.
-pub fn view_gate(a: Params, codeword: usize, node: Node) -> u32
-    ensures { result ≡ view_gate a codeword node.0 }
+pub fn view_gate(a: Params, codeword: usize, node: Node) -> Result<(), Refusal>
+    ensures { answer result ≡ view_gate a codeword node.0 }
 {
-    let record = check_gate(a, codeword);
-    let number = node_gate(a.n, node);
-    if record != 0 {
-        return record;
-    }
-    number
+    check_gate(a, codeword)?;
+    node_gate(a.n, node)
 }
 
 // Rearrangement, with the lengths of record and serials, the old and the new ones, and of the new message, R and W'.
@@ -234,38 +219,22 @@ pub fn reconfigure_gate(
     message: usize,
     from: NodeSet,
     to: NodeSet,
-) -> u32
-    ensures { result ≡ reconfigure_gate a t old serials new numbers message from.0 to.0 }
+) -> Result<(), Refusal>
+    ensures { answer result ≡ reconfigure_gate a t old serials new numbers message from.0 to.0 }
 {
-    let old_shape = params_gate(a);
-    let new_shape = params_gate(Params {
-        k: t.k,
-        r: t.r,
-        w: t.w,
-        n: t.n,
-        b: a.b,
-    });
-    if old_shape != 0 {
-        return old_shape;
-    }
-    if new_shape != 0 {
-        return new_shape + 10;
-    }
-    answers_gate(
+    params_gate(a).and(new_shape_gate(t))?;
+    put(
         ((serials == a.n) & (numbers == t.n))
             & ((old == a.n * a.b) & (new == t.n * a.b) & (message == t.k * a.b)),
-        from.within(a.n) & to.within(t.n),
-        (from.size() == a.r) & (to.size() == t.w),
-        true,
-    )
+        Refusal::Length,
+    )?;
+    put(from.within(a.n) & to.within(t.n), Refusal::NodeAboveN)?;
+    put((from.size() == a.r) & (to.size() == t.w), Refusal::SetSize)
 }
 
 // A damage event, with the set of its nodes: question 7 alone.
-pub fn damage_gate(n: usize, nodes: NodeSet) -> u32
-    ensures { result ≡ damage_gate n nodes.0 }
+pub fn damage_gate(n: usize, nodes: NodeSet) -> Result<(), Refusal>
+    ensures { answer result ≡ damage_gate n nodes.0 }
 {
-    if nodes.within(n) {
-        return 0;
-    }
-    7
+    put(nodes.within(n), Refusal::NodeAboveN)
 }

@@ -2,6 +2,8 @@
 // Answers are document 01's numbers.
 #![tactic(auto)]
 
+ghost use Rattle.std.specs.Prelude.{◌≡◌};
+ghost use Rattle.gates.specs.Refusals.{answer};
 ghost use Rattle.code.specs.Calls.{EncodePost, DecodePost, DeltaPost, UpdatePost, RepairPost, ReconfigurePost};
 ghost use Rattle.jirvents.specs.Exports.{params, shape, CheckGave, ViewGave, InvertGave};
 
@@ -9,12 +11,23 @@ use checking::check;
 use code::Verdict;
 use decoding::decode;
 use encoding::encode;
+use gates::Refusal;
 use maintenance::repair;
 use matrix::{Uninvertible, invert};
 use params::{Node, NodeSet, Params, Shape};
 use reconfiguration::reconfigure;
 use updates::{delta, update};
 use views::view_status;
+
+// Document 01's number of a call's answer: 0 where it is served.
+fn number(r: Result<(), Refusal>) -> u32
+    ensures { result ≡ answer r }
+{
+    match r {
+        Ok(()) => 0,
+        Err(q) => u32::from(q),
+    }
+}
 
 // Writes the codeword of a message and a slack, and serials 0.
 #[unsafe(no_mangle)]
@@ -31,7 +44,7 @@ pub extern "C" fn jirvents_encode(
 ) -> u32
     ensures { EncodePost (params k r w n b) message.now slack.now codeword.old serials.old result codeword.new serials.new }
 {
-    encode(Params { k, r, w, n, b }, message, slack, codeword, serials)
+    number(encode(Params { k, r, w, n, b }, message, slack, codeword, serials))
 }
 
 // Reads the message from the blocks of from's q lowest nodes, q the working number.
@@ -48,7 +61,7 @@ pub extern "C" fn jirvents_decode(
 ) -> u32
     ensures { DecodePost (params k r w n b) codeword.now from out.old result out.new }
 {
-    decode(Params { k, r, w, n, b }, codeword, NodeSet(from), out)
+    number(decode(Params { k, r, w, n, b }, codeword, NodeSet(from), out))
 }
 
 // Writes what a change of the message adds to the blocks of the nodes in to.
@@ -65,7 +78,7 @@ pub extern "C" fn jirvents_delta(
 ) -> u32
     ensures { DeltaPost (params k r w n b) change.now to out.old result out.new }
 {
-    delta(Params { k, r, w, n, b }, change, NodeSet(to), out)
+    number(delta(Params { k, r, w, n, b }, change, NodeSet(to), out))
 }
 
 // Adds a change of the message through the nodes in to: at those that are reached and have a serial below the given one, which they take.
@@ -85,7 +98,7 @@ pub extern "C" fn jirvents_update(
 ) -> u32
     ensures { UpdatePost (params k r w n b) change.now to serial reached codeword.old serials.old result codeword.new serials.new }
 {
-    update(
+    number(update(
         Params { k, r, w, n, b },
         codeword,
         serials,
@@ -93,7 +106,7 @@ pub extern "C" fn jirvents_update(
         NodeSet(to),
         serial,
         NodeSet(reached),
-    )
+    ))
 }
 
 // Writes the blocks of lost anew from those of from's q lowest nodes; their serials become the highest of from's.
@@ -111,13 +124,13 @@ pub extern "C" fn jirvents_repair(
 ) -> u32
     ensures { RepairPost (params k r w n b) from lost codeword.old serials.old result codeword.new serials.new }
 {
-    repair(
+    number(repair(
         Params { k, r, w, n, b },
         codeword,
         serials,
         NodeSet(from),
         NodeSet(lost),
-    )
+    ))
 }
 
 // Writes the codeword of new parameters with a new message, through the blocks of from's q lowest nodes and with those of to made new, and its serials.
@@ -148,7 +161,7 @@ pub extern "C" fn jirvents_reconfigure(
         w: w2,
         n: n2,
     };
-    reconfigure(
+    number(reconfigure(
         Params { k, r, w, n, b },
         t,
         codeword,
@@ -158,7 +171,7 @@ pub extern "C" fn jirvents_reconfigure(
         message,
         out,
         numbers,
-    )
+    ))
 }
 
 // Which nodes to blame: where the answer is 0, set becomes nodes without which one pair gives all other blocks, tried how many sets were tried, at most the budget,
@@ -204,12 +217,13 @@ pub extern "C" fn jirvents_view(
 ) -> u32
     ensures { ViewGave (params k r w n b) codeword.now node start.old result start.new }
 {
-    let number = view_status(Params { k, r, w, n, b }, codeword, Node(node));
-    if number != 0 {
-        return number;
+    match view_status(Params { k, r, w, n, b }, codeword, Node(node)) {
+        Ok(()) => {
+            *start = (usize::from(node) - 1) * b;
+            0
+        }
+        Err(q) => u32::from(q),
     }
-    *start = (node as usize - 1) * b;
-    0
 }
 
 // Writes the inverse of the matrix of the given side. Where the answer is 15, column becomes the first column that is a sum of multiples of those before it (a column of 00 counts).

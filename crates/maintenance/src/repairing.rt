@@ -1,11 +1,12 @@
 // Rebuild: the blocks of lost nodes, from the blocks of others.
 ghost use Rattle.std.specs.Prelude.{◌*◌, ◌≤◌, length};
 ghost use Rattle.params.specs.Nodes.{size};
+ghost use Rattle.gates.specs.Refusals.{answer};
 ghost use Rattle.code.specs.Calls.{RepairPost};
 ghost use Rattle.maintenance.specs.Cores.{Rebuildable, Rebuilt};
 
 use extension::recompute;
-use gates::repair_gate;
+use gates::{Refusal, repair_gate};
 use params::{NodeSet, Params};
 use placing::put_blocks;
 use serials::{highest, stamp};
@@ -18,18 +19,15 @@ pub fn repair(
     serials: &mut [u32],
     from: NodeSet,
     lost: NodeSet,
-) -> u32
-    ensures { RepairPost a from.0 lost.0 codeword.old serials.old result codeword.new serials.new }
+) -> Result<(), Refusal>
+    ensures { RepairPost a from.0 lost.0 codeword.old serials.old (answer result) codeword.new serials.new }
 {
-    let refusal = repair_gate(a, codeword.len(), serials.len(), from, lost);
-    if refusal != 0 {
-        return refusal;
-    }
+    repair_gate(a, codeword.len(), serials.len(), from, lost)?;
     let chosen = from.lowest(a.working());
     repair_blocks(a, codeword, chosen, lost);
     let newest = highest(serials, from);
     stamp(serials, lost, newest);
-    0
+    Ok(())
 }
 
 // Makes room for the lost blocks, no more than is wanted, since room is cleared at each call.

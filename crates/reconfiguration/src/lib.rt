@@ -6,12 +6,13 @@
 
 ghost use Rattle.std.specs.Prelude.{◌*◌, ◌≤◌, length};
 ghost use Rattle.params.specs.Params.{slack_parts, reshaped};
+ghost use Rattle.gates.specs.Refusals.{answer};
 ghost use Rattle.code.specs.Calls.{ReconfigurePost};
 ghost use Rattle.reconfiguration.specs.Core.{Asks, Writes};
 
 use blocks::copy_block;
 use extension::{complete, recompute};
-use gates::reconfigure_gate;
+use gates::{Refusal, reconfigure_gate};
 use params::{NodeSet, Params, Shape};
 use serials::{hand_on, highest};
 
@@ -27,10 +28,10 @@ pub fn reconfigure(
     message: &[u8],
     out: &mut [u8],
     numbers: &mut [u32],
-) -> u32
-    ensures { ReconfigurePost a shape codeword.now serials.now from.0 to.0 message.now out.old numbers.old result out.new numbers.new }
+) -> Result<(), Refusal>
+    ensures { ReconfigurePost a shape codeword.now serials.now from.0 to.0 message.now out.old numbers.old (answer result) out.new numbers.new }
 {
-    let refusal = reconfigure_gate(
+    reconfigure_gate(
         a,
         shape,
         codeword.len(),
@@ -40,10 +41,7 @@ pub fn reconfigure(
         message.len(),
         from,
         to,
-    );
-    if refusal != 0 {
-        return refusal;
-    }
+    )?;
     let chosen = from.lowest(a.working());
     let core = Rearrangement {
         a,
@@ -56,7 +54,7 @@ pub fn reconfigure(
     core.write(out);
     let made = to.outside(a.n).outside(shape.n);
     hand_on(serials, made, highest(serials, from), numbers);
-    0
+    Ok(())
 }
 
 // The old record and its parameters, the set that its pair is read from, and the new shape, W' and message.

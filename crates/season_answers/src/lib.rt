@@ -3,13 +3,16 @@
 #![tactic(auto)]
 
 ghost use Rattle.std.specs.Prelude.{◌≡◌, ℕ};
+ghost use Rattle.gates.specs.Refusals.{answer};
 ghost use Rattle.season_file.specs.File.{kind_of};
 ghost use Rattle.season_file.specs.declared.Event.TheVariants.{Reconfigure};
 ghost use Rattle.season_answers.specs.Answers.{answer_of};
 ghost use Rattle.season_answers.specs.Extents.{Extent};
 ghost use Rattle.season_answers.specs.Records.{RecordLength};
 
-use gates::{check_gate, damage_gate, decode_gate, reconfigure_gate, repair_gate, update_gate};
+use gates::{
+    Refusal, check_gate, damage_gate, decode_gate, reconfigure_gate, repair_gate, update_gate,
+};
 use params::Params;
 use season_file::{Event, ReconfigureFields};
 
@@ -27,8 +30,8 @@ pub fn kind_of(e: Event) -> u8
 }
 
 // The answer to the event under the parameters in force, with the serial that a change carries.
-pub fn answer(a: Params, serial: u32, e: Event) -> u32
-    ensures { result ≡ answer_of a serial e }
+pub fn answer(a: Params, serial: u32, e: Event) -> Result<(), Refusal>
+    ensures { answer result ≡ answer_of a serial e }
 {
     let codeword = extent(a.n, a.b);
     let message = extent(a.k, a.b);
@@ -42,9 +45,9 @@ pub fn answer(a: Params, serial: u32, e: Event) -> u32
 }
 
 // A rearrangement's, with the length of the record in force. It carries no serial.
-fn reconfigure_answer(a: Params, codeword: usize, f: ReconfigureFields) -> u32
+fn reconfigure_answer(a: Params, codeword: usize, f: ReconfigureFields) -> Result<(), Refusal>
     requires { Extent a.n a.b codeword }
-    ensures { (serial : ℕ) → result ≡ answer_of a serial (Reconfigure f) }
+    ensures { (serial : ℕ) → answer result ≡ answer_of a serial (Reconfigure f) }
 {
     let shape = f.shape;
     let new = extent(shape.n, a.b);
@@ -77,7 +80,7 @@ pub fn record_length(a: Params) -> usize
         return 0;
     }
     let length = a.n * a.b;
-    if check_gate(a, length) != 0 {
+    if check_gate(a, length).is_err() {
         return 0;
     }
     length

@@ -59,7 +59,7 @@ fn apply_update(
     let length = nodes * a.b;
     let at = f.change.at;
     let end = at + f.change.count;
-    update(
+    let _ = update(
         a,
         &mut codeword[..length],
         &mut serials[..nodes],
@@ -82,7 +82,7 @@ fn apply_repair(a: Params, f: RepairFields, codeword: &mut [u8], serials: &mut [
 {
     let nodes = a.n;
     let length = nodes * a.b;
-    repair(
+    let _ = repair(
         a,
         &mut codeword[..length],
         &mut serials[..nodes],
@@ -124,7 +124,7 @@ fn apply_decode(a: Params, f: DecodeFields, codeword: &[u8], room: &mut [u8]) ->
 {
     let length = a.n * a.b;
     let count = a.k * a.b;
-    decode(a, &codeword[..length], f.from, &mut room[..count]);
+    let _ = decode(a, &codeword[..length], f.from, &mut room[..count]);
     Effect {
         params: a,
         answer: 0,
@@ -171,7 +171,7 @@ fn reconfigure_within(
     let new = new_nodes * a.b;
     let at = f.message.at;
     let end = at + f.message.count;
-    reconfigure(
+    let _ = reconfigure(
         a,
         shape,
         &codeword[..old],

@@ -36,11 +36,10 @@ pub fn take_effect(
 ) -> Effect
     ensures { EffectPost a input.now serial e codeword.old serials.old room.old result codeword.new serials.new room.new }
 {
-    let number = answer(a, serial, e);
-    if number != 0 {
+    if let Err(q) = answer(a, serial, e) {
         return Effect {
             params: a,
-            answer: number,
+            answer: u32::from(q),
             printed: 0,
         };
     }

@@ -41,7 +41,7 @@ room-or buffer serials line =
     (both-or (eq-or (length buffer) 32768) (both-or (eq-or (length serials) 32) (eq-or (length line) 65600)))
 
 valid-or : (a : Params) → Valid a ⊎ (Valid a → ⊥)
-valid-or a = same_or (valid-of a refl) (λ v. first-zero _ (params-yes a v tt)) (eq-or (first_no (params_asked a)) 0)
+valid-or a = same_or (λ z. valid-of a (sym z)) (λ v. first-zero _ (params-yes a v tt)) (eq-or (first_no (params_asked a)) 0)
 
 le-or : (a b : ℕ) → (a ≤ b) ⊎ (a ≤ b → ⊥)
 le-or a b = ⊎_elim (λ gt. inr (λ h. absurd (omega arith))) (λ le. inl le) (lt-or b a)

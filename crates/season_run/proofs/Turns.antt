@@ -70,7 +70,7 @@ invalid-gate : (a : Params) (message slack codeword serials codeword' serials' :
     → encode_gate a message slack codeword serials ≡ encode_gate a message slack codeword' serials'
 unfolding encode_gate
 invalid-gate a message slack codeword serials codeword' serials' bad =
-    let ne : first_no (params_asked a) ≡ 0 → ⊥ = λ z. bad (valid-of a refl z) in
+    let ne : first_no (params_asked a) ≡ 0 → ⊥ = λ z. bad (valid-of a (sym z)) in
     sym (first _ (stopped (params_asked a) _ refl ne)) ∙ first _ (stopped (params_asked a) _ refl ne)
 
 -- a record fits the buffer

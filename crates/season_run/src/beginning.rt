@@ -66,8 +66,8 @@ fn set_up(
         &mut codeword[..length],
         &mut serials[..nodes],
     );
-    if answer != 0 {
-        return last_line(input, line, 0, 0, answer);
+    if let Err(q) = answer {
+        return last_line(input, line, 0, 0, u32::from(q));
     }
     let written = write_line(line, 0, 0, 0, &input[..0]);
     Turn {

@@ -3,30 +3,28 @@
 #![tactic(auto)]
 
 ghost use Rattle.std.specs.Prelude.{◌*◌, ◌≤◌, length};
+ghost use Rattle.gates.specs.Refusals.{answer};
 ghost use Rattle.code.specs.Calls.{DeltaPost, UpdatePost};
 ghost use Rattle.updates.specs.Spreading.{Spread, Spreadable};
 
 use block_numbers::{in_order, places_of};
 use blocks::clear;
-use gates::{delta_gate, update_gate};
+use gates::{Refusal, delta_gate, update_gate};
 use kernels::add_product;
 use node_rows::extending_rows;
 use params::{NodeSet, Params};
 use serials::{stamp, takers};
 
 // The differences that the change makes at the nodes of `to`, in rising order of the nodes. A refusal leaves out as it was.
-pub fn delta(a: Params, change: &[u8], to: NodeSet, out: &mut [u8]) -> u32
-    ensures { DeltaPost a change.now to.0 out.old result out.new }
+pub fn delta(a: Params, change: &[u8], to: NodeSet, out: &mut [u8]) -> Result<(), Refusal>
+    ensures { DeltaPost a change.now to.0 out.old (answer result) out.new }
 {
-    let refusal = delta_gate(a, change.len(), out.len(), to);
-    if refusal != 0 {
-        return refusal;
-    }
+    delta_gate(a, change.len(), out.len(), to)?;
     let w = a.w;
     let order = in_order();
     clear(out);
     spread(a, change, to, to, &order[..w], out);
-    0
+    Ok(())
 }
 
 // One send of a change: the nodes of `to` that are reached and have a lower serial add the same differences to their blocks and take the serial. A refusal leaves
@@ -39,20 +37,17 @@ pub fn update(
     to: NodeSet,
     serial: u32,
     reached: NodeSet,
-) -> u32
-    ensures { UpdatePost a change.now to.0 serial reached.0 codeword.old serials.old result codeword.new serials.new }
+) -> Result<(), Refusal>
+    ensures { UpdatePost a change.now to.0 serial reached.0 codeword.old serials.old (answer result) codeword.new serials.new }
 {
-    let refusal = update_gate(a, codeword.len(), serials.len(), change.len(), to, serial);
-    if refusal != 0 {
-        return refusal;
-    }
+    update_gate(a, codeword.len(), serials.len(), change.len(), to, serial)?;
     let taking = takers(to, reached, serials, serial);
     let count = taking.size();
     let mut places = [0u8; 32];
     places_of(taking, &mut places);
     spread(a, change, to, taking, &places[..count], codeword);
     stamp(serials, taking, serial);
-    0
+    Ok(())
 }
 
 // What a change that vanishes at the nodes outside `to` makes of the block of each of the takers is added to the block of out that targets names for it. Room

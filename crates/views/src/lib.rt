@@ -3,29 +3,28 @@
 
 ghost use Rattle.std.specs.Prelude.{◌≡◌, length};
 ghost use Rattle.gates.specs.Gates.{view_gate};
+ghost use Rattle.gates.specs.Refusals.{answer};
 ghost use Rattle.code.specs.Calls.{ViewPost};
 
-use base::wide;
-use gates::view_gate;
+use gates::{Refusal, view_gate};
 use params::{Node, Params};
 
-// The node's block; an empty part where the call is refused, as document 01 has it ("A refused view is a part of length 0", `ViewPost`).
+// The node's block; an empty part where the call is refused, and no Result: document 01 has it so ("A refused view is a part of length 0", `ViewPost`).
 pub fn view(a: Params, codeword: &[u8], node: Node) -> &[u8]
     ensures { ViewPost a codeword.now node.0 result.now }
 {
-    let refusal = view_gate(a, codeword.len(), node);
-    if refusal != 0 {
+    if view_gate(a, codeword.len(), node).is_err() {
         return &codeword[0..0];
     }
     let b = a.b;
-    let start = (wide(node.0) - 1) * b;
+    let start = (usize::from(node.0) - 1) * b;
     let end = start + b;
     &codeword[start..end]
 }
 
 // The number that goes with the view of the same arguments.
-pub fn view_status(a: Params, codeword: &[u8], node: Node) -> u32
-    ensures { result ≡ view_gate a (length codeword.now) node.0 }
+pub fn view_status(a: Params, codeword: &[u8], node: Node) -> Result<(), Refusal>
+    ensures { answer result ≡ view_gate a (length codeword.now) node.0 }
 {
     view_gate(a, codeword.len(), node)
 }

@@ -1,6 +1,6 @@
 -- Refused, the number alone; else the search's answer. Each of the three rooms is enough for the blocks that it is made for: the largest has place for 32 of 1,024
 -- bytes. Assumes nothing.
-use mathlib.Core.Path.{◌≡◌, sym, ◌∙◌, subst}
+use mathlib.Core.Path.{◌≡◌, sym, subst}
 use Prim.Native.Nat.{ℕ, ◌-◌, ◌*◌, ◌≤◌}
 use native.Mathlib.Omega.{arith}
 use lib.ListN.{length}
@@ -14,7 +14,7 @@ use Rattle.checking.proofs.check.Goals.{After-working}
 module _ (c : After-working) where
   ok : Checkable c.args.a (length c.args.codeword.now)
   ok =
-      let accepted = (check-accepted _ _).0 (sym c.check_gate-refusal.ensures ∙ c.if-refusal-ne0.false) in
+      let accepted = (check-accepted _ _).0 (sym c.in_default.ensures) in
       record { valid = accepted.valid; codeword_length = accepted.codeword_length }
 
   exact : c.working.result ≡ working c.args.a

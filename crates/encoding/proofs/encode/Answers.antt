@@ -7,14 +7,14 @@ use Rattle.code.proofs.Posts.{served, refused}
 use Rattle.encoding.proofs.Accepted.{encodable}
 use Rattle.encoding.proofs.encode.Goals as goal
 
-pub returns-then-refusal-ne0 : goal.returns-then-refusal-ne0
-returns-then-refusal-ne0 c = refused _ _ c.encode_gate-refusal.ensures c.if-refusal-ne0.true (refl, refl)
+pub returns-in_err-encode_gate : goal.returns-in_err-encode_gate
+returns-in_err-encode_gate c = refused _ _ _ c.from_residual.ensures.1 c.in_err-encode_gate.ensures (refl, refl)
 
 pub encode_blocks-requires : goal.encode_blocks-requires
-encode_blocks-requires c = encodable _ _ _ _ _ ((encode-accepted _ _ _ _ _).0 (sym c.encode_gate-refusal.ensures ∙ c.if-refusal-ne0.false))
+encode_blocks-requires c = encodable _ _ _ _ _ ((encode-accepted _ _ _ _ _).0 (sym c.in_ok-encode_gate.ensures))
 
 pub returns : goal.returns
 returns c =
-    let accept = (encode-accepted _ _ _ _ _).0 (sym c.encode_gate-refusal.ensures ∙ c.if-refusal-ne0.false) in
-    served _ (sym c.encode_gate-refusal.ensures ∙ c.if-refusal-ne0.false)
+    let accept = (encode-accepted _ _ _ _ _).0 (sym c.in_ok-encode_gate.ensures) in
+    served _ (sym c.in_ok-encode_gate.ensures)
     (c.encode_blocks.ensures, c.clear_serials.ensures ∙ ap (λ (n : ℕ). replicate n 0) accept.serials_length)

@@ -9,29 +9,29 @@ use Rattle.gates.proofs.Valid.{delta-accepted}
 use Rattle.code.proofs.Posts.{served}
 use Rattle.updates.proofs.Targets.{in_a_row, differences}
 use Rattle.updates.proofs.delta.Goals as goal
-use Rattle.updates.proofs.delta.Goals.{Else-refusal-ne0}
+use Rattle.updates.proofs.delta.Goals.{In_ok-delta_gate}
 
 -- what the gate's 0 says
-accepted : (c : Else-refusal-ne0) → DeltaAccepted c.args.a (length c.args.change.now) (length c.args.out.now) c.args.to.0
-accepted c = (delta-accepted _ _ _ _).0 (sym c.delta_gate-refusal.ensures ∙ c.if-refusal-ne0.false)
+accepted : (c : In_ok-delta_gate) → DeltaAccepted c.args.a (length c.args.change.now) (length c.args.out.now) c.args.to.0
+accepted c = (delta-accepted _ _ _ _).0 (sym c.in_ok-delta_gate.ensures)
 
 pub slice_bounds-order-end : goal.slice_bounds-order-end
 slice_bounds-order-end c =
-    let few = (accepted (goal.at.slice_bounds-order-end c).Else-refusal-ne0).valid.shape in
+    let few = (accepted (goal.at.slice_bounds-order-end c).In_ok-delta_gate).valid.shape in
     omega (arith, few.w_le_n, few.n_high)
 
 pub slice_bounds-spread-end : goal.slice_bounds-spread-end
 slice_bounds-spread-end c =
-    let few = (accepted (goal.at.slice_bounds-spread-end c).Else-refusal-ne0).valid.shape in
+    let few = (accepted (goal.at.slice_bounds-spread-end c).In_ok-delta_gate).valid.shape in
     sym (length-take-le _ c.in_order-order.result (omega (arith, few.w_le_n, few.n_high)))
 
 pub spread-requires : goal.spread-requires
 spread-requires c =
     in_a_row c.args.a c.args.to.0 (omega arith) c.args.change.now c.in_order-order.result c.in_order-order.ensures _
-    (accepted (goal.at.spread-requires c).Else-refusal-ne0) _ (search rules)
+    (accepted (goal.at.spread-requires c).In_ok-delta_gate) _ (search rules)
 
 pub returns : goal.returns
 returns c =
-    served _ (sym c.delta_gate-refusal.ensures ∙ c.if-refusal-ne0.false)
+    served _ (sym c.in_ok-delta_gate.ensures)
     (differences c.args.a c.args.to.0 (omega arith) c.args.change.now c.in_order-order.result c.in_order-order.ensures _
-    (accepted (goal.at.returns c).Else-refusal-ne0) (length c.args.out.now) _ _ c.clear.ensures c.clear.auto.dst c.spread.ensures)
+    (accepted (goal.at.returns c).In_ok-delta_gate) (length c.args.out.now) _ _ c.clear.ensures c.clear.auto.dst c.spread.ensures)

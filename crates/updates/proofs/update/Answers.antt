@@ -12,12 +12,12 @@ use Rattle.gates.proofs.Valid.{update-accepted}
 use Rattle.code.proofs.Posts.{served}
 use Rattle.updates.proofs.Targets.{in_place, updated, stamped}
 use Rattle.updates.proofs.update.Goals as goal
-use Rattle.updates.proofs.update.Goals.{After-places_of, Else-refusal-ne0}
+use Rattle.updates.proofs.update.Goals.{After-places_of, In_ok-update_gate}
 
 -- what the gate's 0 says
-accepted : (c : Else-refusal-ne0)
+accepted : (c : In_ok-update_gate)
     → let s = c.args in UpdateAccepted s.a (length s.codeword.now) (length s.serials.now) (length s.change.now) s.to.0 s.serial
-accepted c = (update-accepted _ _ _ _ _ _).0 (sym c.update_gate-refusal.ensures ∙ c.if-refusal-ne0.false)
+accepted c = (update-accepted _ _ _ _ _ _).0 (sym c.in_ok-update_gate.ensures)
 
 word : (c : After-places_of) → c.takers-taking.result.0 < 2 ^ 32
 word c = omega arith
@@ -41,14 +41,14 @@ spread-requires c =
     let l = (goal.at.spread-requires c).After-places_of in
     let s = c.args in
     in_place s.a s.to.0 s.reached.0 s.serial c.takers-taking.result.0 s.change.now s.codeword.now s.serials.now
-    (accepted (goal.at.spread-requires c).Else-refusal-ne0) c.takers-taking.ensures (word l) _ (placed l) _ c.size-count.ensures
+    (accepted (goal.at.spread-requires c).In_ok-update_gate) c.takers-taking.ensures (word l) _ (placed l) _ c.size-count.ensures
 
 pub returns : goal.returns
 returns c =
     let l = (goal.at.returns c).After-places_of in
-    let e = accepted (goal.at.returns c).Else-refusal-ne0 in
+    let e = accepted (goal.at.returns c).In_ok-update_gate in
     let s = c.args in
-    served _ (sym c.update_gate-refusal.ensures ∙ c.if-refusal-ne0.false) (
+    served _ (sym c.in_ok-update_gate.ensures) (
       updated s.a s.to.0 s.reached.0 s.serial c.takers-taking.result.0 s.change.now s.codeword.now s.serials.now e
           c.takers-taking.ensures (word l) _ (placed l) _ c.size-count.ensures _ c.spread.ensures,
       stamped s.a s.to.0 s.reached.0 s.serial c.takers-taking.result.0 s.change.now s.codeword.now s.serials.now e

@@ -1,25 +1,27 @@
 -- A node of 1..n has its block within the codeword. Assumes nothing.
+use mathlib.Core.Path.{sym, ◌∙◌}
 use Prim.Native.Nat.{◌+◌, ◌-◌, ◌*◌, ◌≤◌}
 use native.Mathlib.Omega.{arith}
 use lib.ListN.{length}
+use Rattle.gates.proofs.Refusals.{ok-is-0, err-not-0}
 use Rattle.views.proofs.Viewed.{some, view-inside, viewed, hidden}
 use Rattle.views.proofs.view.Goals as goal
 
-pub returns-then-refusal-ne0 : goal.returns-then-refusal-ne0
-returns-then-refusal-ne0 c = hidden _ _ _ _ c.view_gate-refusal.ensures c.if-refusal-ne0.true
+pub returns-then-is_err : goal.returns-then-is_err
+returns-then-is_err c = hidden _ _ _ _ c.view_gate.ensures (err-not-0 _ (sym c.is_err.ensures.value ∙ c.if-is_err.true))
 
 pub overflow_sub-start : goal.overflow_sub-start
 overflow_sub-start c =
     let s = c in
-    omega (arith, some s.args.a s.args.codeword.now _ _ _ c.view_gate-refusal.ensures c.if-refusal-ne0.false c.wide.ensures)
+    omega (arith, some s.args.a s.args.codeword.now _ _ _ c.view_gate.ensures (ok-is-0 _ (sym c.is_err.ensures.value ∙ c.if-is_err.false)) c.from.ensures)
 
 -- its block ends within the codeword
-ends : (c : goal.After-wide)
-    → (c.wide.result - 1) * c.args.a.b + c.args.a.b
+ends : (c : goal.After-from)
+    → (c.from.result - 1) * c.args.a.b + c.args.a.b
     ≤ length c.args.codeword.now
 ends c =
     let s = c in
-    view-inside s.args.a s.args.codeword.now _ _ _ c.view_gate-refusal.ensures c.if-refusal-ne0.false c.wide.ensures
+    view-inside s.args.a s.args.codeword.now _ _ _ c.view_gate.ensures (ok-is-0 _ (sym c.is_err.ensures.value ∙ c.if-is_err.false)) c.from.ensures
 
 pub overflow_mul-start : goal.overflow_mul-start
 overflow_mul-start c = omega (arith, ends c)
@@ -34,4 +36,4 @@ pub returns : goal.returns
 returns c =
     let i = c in
     let s = i in
-    viewed s.args.a s.args.codeword.now _ _ _ i.view_gate-refusal.ensures i.if-refusal-ne0.false i.wide.ensures
+    viewed s.args.a s.args.codeword.now _ _ _ i.view_gate.ensures (ok-is-0 _ (sym i.is_err.ensures.value ∙ i.if-is_err.false)) i.from.ensures

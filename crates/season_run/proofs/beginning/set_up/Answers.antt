@@ -1,7 +1,8 @@
 -- The header stands within the input, and record and serials fit their buffers; the answer decides. Assumes nothing.
-use mathlib.Core.Path.{sym}
+use mathlib.Core.Path.{refl, sym}
 use native.Mathlib.Omega.{arith}
 use lib.Seq.{length-take-le}
+use Rattle.gates.proofs.Refusals.{number-not-0}
 use Rattle.season_run.proofs.Events.{header-inside}
 use Rattle.season_run.proofs.Turns.{size_fits, all-nodes, set-up-refused, set-up-accepted}
 use Rattle.season_run.proofs.beginning.set_up.Goals as goal
@@ -37,15 +38,15 @@ slice_bounds-encode-end-6 c = sym (length-take-le _ c.args.serials.now (omega (a
 pub last_line-requires : goal.last_line-requires
 last_line-requires c = omega (arith, c.requires.room.line_room)
 
-pub returns-then-answer-ne0 : goal.returns-then-answer-ne0
-returns-then-answer-ne0 c =
+pub returns-in-Err : goal.returns-in-Err
+returns-in-Err c =
     let s = c in
     let n = c.shorter-nodes.ensures in
     let u = c.encode-answer in
     set-up-refused s.args.input.now s.args.header s.requires.input_value s.args.codeword.now s.args.serials.now s.requires.room.record_room
     s.requires.room.serials_room _ _ c.record_length-length.ensures n.upper_bound_2 (all-nodes _ _ n.upper_bound n.lower_bound) _ _ _ u.auto.codeword
-    u.auto.serials u.ensures (λ z. omega (arith, z, c.if-answer-ne0.true)) s.args.line.now _ _
-    c.last_line.ensures
+    u.auto.serials c.in-Err.ensures (number-not-0 _) s.args.line.now _ _
+    (rw c.from.ensures at c.last_line.ensures)
 
 pub returns : goal.returns
 returns c =
@@ -54,5 +55,5 @@ returns c =
     let u = c.encode-answer in
     set-up-accepted s.args.input.now s.args.header s.requires.input_value s.args.codeword.now s.args.serials.now s.requires.room.record_room
     s.requires.room.serials_room _ _ c.record_length-length.ensures n.upper_bound_2 (all-nodes _ _ n.upper_bound n.lower_bound) _ _ _ u.auto.codeword
-    u.auto.serials u.ensures (omega (arith, c.if-answer-ne0.false)) s.args.line.now _ _
+    u.auto.serials c.in_default.ensures refl s.args.line.now _ _
     c.write_line-written.ensures (omega (arith, s.requires.room.line_room))
