@@ -2,14 +2,15 @@
 // input. After a write that fails the program stops, says so on standard error and ends with status 1.
 #![tactic(auto)]
 
-ghost use Rattle.std.specs.Prelude.{◌≡◌, ◌≤◌, true, length, take};
+ghost use Rattle.std.specs.Prelude.{◌≤◌, length, take, OnOk, is_ok};
 ghost use Rattle.std.specs.Io.KnownBytes.{Appends};
 ghost use Rattle.season_run.specs.Season.{Room};
 ghost use Rattle.season.specs.Loop.{Printed, HandedOver};
 
+use season_run::Turn;
 use season_run::beginning::begin;
 use season_run::turning::turn;
-use season_run::{Next, Turn};
+use std::io;
 use std::io::{Read, Write};
 use std::process::ExitCode;
 
@@ -17,7 +18,7 @@ use std::process::ExitCode;
 fn main(rt: HostRuntime) -> ExitCode {
     let mut input = [0u8; 65535];
     let count = read_full(&mut rt.stdin(), &mut input);
-    if run(&input[..count], &mut rt.stdout()) {
+    if run(&input[..count], &mut rt.stdout()).is_ok() {
         return ExitCode::SUCCESS;
     }
     let _ = rt
@@ -31,19 +32,15 @@ fn read_full(from: &mut impl Read, buffer: &mut [u8]) -> usize
     ensures { result ≤ length buffer.new }
 {
     let mut done = 0;
-    while done < buffer.len() {
-        match from.read(&mut buffer[done..]) {
-            Ok(0) => return done,
-            Ok(count) => done += count,
-            Err(_) => return done,
-        }
+    while let Ok(count @ 1..) = from.read(&mut buffer[done..]) {
+        done += count;
     }
     done
 }
 
-// Makes room for the record, the serials and a line. The answer is whether all lines were written.
-fn run<W: Write>(input: &[u8], out: &mut W) -> bool
-    ensures { result ≡ true → HandedOver input.now (W.contents out.old) (W.contents out.new) }
+// Makes room for the record, the serials and a line. An error says that a line was not written.
+fn run<W: Write>(input: &[u8], out: &mut W) -> io::Result<()>
+    ensures { OnOk result (HandedOver input.now (W.contents out.old) (W.contents out.new)) }
 {
     let mut codeword = [0u8; 32768];
     let mut serials = [0u32; 32];
@@ -51,46 +48,32 @@ fn run<W: Write>(input: &[u8], out: &mut W) -> bool
     run_within(input, &mut codeword, &mut serials, &mut line, out)
 }
 
-// Writes each turn's line until the run ends; after a write that fails it stops and answers no. That the calls are the right ones, to the end, is proved
-// (Printed), and that their lines are given to the writer, one after the other, where the answer is yes (HandedOver).
+// Writes each turn's line until the run ends; after a write that fails it stops with its error. That the calls are the right ones, to the end, is proved
+// (Printed), and that their lines are given to the writer, one after the other, where all were written (HandedOver).
 fn run_within<W: Write>(
     input: &[u8],
     codeword: &mut [u8],
     serials: &mut [u32],
     line: &mut [u8],
     out: &mut W,
-) -> bool
+) -> io::Result<()>
     requires { Room codeword.old serials.old line.old }
-    ensures printed { Printed input.now codeword.old serials.old line.old result codeword.new serials.new line.new }
-    ensures handed_over { result ≡ true → HandedOver input.now (W.contents out.old) (W.contents out.new) }
+    ensures printed { Printed input.now codeword.old serials.old line.old (is_ok result) codeword.new serials.new line.new }
+    ensures handed_over { OnOk result (HandedOver input.now (W.contents out.old) (W.contents out.new)) }
 {
-    let first = begin(input, codeword, serials, line);
-    if !show(first, line, out) {
-        return false;
+    let mut t = begin(input, codeword, serials, line);
+    show(t, line, out)?;
+    while let Some(s) = t.next {
+        t = turn(input, s, codeword, serials, line);
+        show(t, line, out)?;
     }
-    let opened = first.next;
-    let Next::On(state) = opened else {
-        return true;
-    };
-    let mut s = state;
-    loop {
-        let t = turn(input, s, codeword, serials, line);
-        if !show(t, line, out) {
-            return false;
-        }
-        let next = t.next;
-        let Next::On(after) = next else {
-            return true;
-        };
-        s = after;
-    }
+    Ok(())
 }
 
 // Writes the turn's line.
-fn show<W: Write>(t: Turn, line: &[u8], out: &mut W) -> bool
+fn show<W: Write>(t: Turn, line: &[u8], out: &mut W) -> io::Result<()>
     requires { t.written ≤ length line.now }
-    ensures { result ≡ true → Appends (W.contents out.old) (W.contents out.new) (take t.written line.now) }
+    ensures { OnOk result (Appends (W.contents out.old) (W.contents out.new) (take t.written line.now)) }
 {
-    let written = t.written;
-    out.write_all(&line[..written]).is_ok()
+    out.write_all(&line[..t.written])
 }

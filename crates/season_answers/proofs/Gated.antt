@@ -3,8 +3,9 @@
 use mathlib.Core.Path.{◌≡◌, refl, sym, ap, ◌∙◌}
 use mathlib.Core.Bool.{Bool, true, false, cond}
 use mathlib.Core.List.{List, [], ◌∷◌, ◌++◌}
-use Prim.Native.Nat.{ℕ, ◌*◌, ◌≤◌}
+use Prim.Native.Nat.{ℕ, ◌-◌, ◌*◌, ◌^◌, ◌≤◌, min}
 use native.Mathlib.Nat.{le_trans}
+use native.Mathlib.Omega.{arith}
 use Rattle.base.specs.Gate.{Question, first_no}
 use Rattle.params.specs.Params.{reshaped}
 use Rattle.gates.specs.Gates.{shape_asked, params_asked, update_gate, repair_gate, decode_gate, reconfigure_gate, damage_gate}
@@ -12,7 +13,7 @@ use Rattle.gates.specs.Valid.{ValidShape, Valid}
 use Rattle.params.specs.declared.Params.{Params}
 use Rattle.params.specs.declared.Shape.{Shape}
 use Rattle.base.proofs.Questions.{AllYes}
-use Rattle.gates.proofs.Valid.{params-known, shape-known}
+use Rattle.gates.proofs.Valid.{params-known, shape-known, blocks-most}
 use Rattle.season_file.specs.declared.UpdateFields.{UpdateFields}
 use Rattle.season_file.specs.declared.RepairFields.{RepairFields}
 use Rattle.season_file.specs.declared.DamageFields.{DamageFields}
@@ -21,7 +22,6 @@ use Rattle.season_file.specs.declared.ReconfigureFields.{ReconfigureFields}
 use Rattle.season_file.specs.declared.Event.{Event}
 use Rattle.season_file.specs.declared.Event.TheVariants.{Update, Repair, Damage, Decode, Reconfigure}
 use Rattle.season_answers.specs.Answers.{answer_of}
-use Rattle.season_answers.specs.Extents.{Extent}
 
 -- questions behind others matter only where all of those are answered yes
 behind : (qs rest other : List Question) → (AllYes qs → first_no rest ≡ first_no other) → first_no (qs ++ rest) ≡ first_no (qs ++ other)
@@ -34,13 +34,23 @@ behind (q ∷ qs) rest other h = go q.answer (λ e. behind qs rest other (λ y. 
     go true more = more refl
     go false more = refl
 
+-- ---- lengths
+
+-- the bytes of so many blocks of a size, if valid parameters can have such blocks
+abbrev pub Extent : ℕ → ℕ → ℕ → Type 0
+Extent count size bytes = count ≤ 32 → size ≤ 1024 → bytes ≡ count * size
+
+-- a product cut off at the largest usize is that
+pub extent : (count size bytes : ℕ) → bytes ≡ min (count * size) (2 ^ 64 - 1) → Extent count size bytes
+extent count size bytes e few small = omega (arith, blocks-most count size few small)
+
 -- ---- valid parameters
 
 k-high : {t : Shape} → ValidShape t → t.k ≤ 32
 k-high v = le_trans v.k_le_r (le_trans v.r_le_n v.n_high)
 
 module _ {a : Params} (v : Valid a) where
-  n-found : {x : ℕ} → Extent a.n a.b x → x ≡ a.n * a.b
+  pub n-found : {x : ℕ} → Extent a.n a.b x → x ≡ a.n * a.b
   n-found h = h v.shape.n_high v.b_high
 
   k-found : {x : ℕ} → Extent a.k a.b x → x ≡ a.k * a.b

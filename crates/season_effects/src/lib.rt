@@ -67,7 +67,7 @@ fn is_ready(a: Params, input: usize, e: Event, codeword: usize, serials: usize, 
     if room != 32768 {
         return false;
     }
-    if record_length(a) == 0 {
+    if record_length(a).is_none() {
         return false;
     }
     match e {

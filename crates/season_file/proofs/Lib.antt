@@ -1,5 +1,4 @@
 mod Capped
 mod Items
 mod Openings
-mod ByKind
 pub mod Lengths

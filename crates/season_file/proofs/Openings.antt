@@ -4,27 +4,28 @@ use mathlib.Core.List.{List}
 use Prim.Native.Nat.{ℕ, ◌+◌, ◌≤◌, ◌<◌}
 use lib.ListN.{length}
 use borrow.Author.Tests.{lt-ltb, le-ltb, eq-eqb, ne_eqb}
+use Rattle.std.specs.Prelude.{Ok, Err}
 use Rattle.params.specs.declared.Params.{Params}
 use Rattle.season_file.specs.File.{number_at, params_of, events_count_at, opening_of}
-use Rattle.season_file.specs.declared.Opening.TheVariants.{Faulty, Whole}
+use Rattle.season_file.specs.declared.FileFault.TheVariants.{FirstCount, EndsEarly}
 
 module _ (input : List ℕ) where
-  pub no-count : length input < 2 → Faulty 21 ≡ opening_of input
+  pub no-count : length input < 2 → Err EndsEarly ≡ opening_of input
   unfolding opening_of
   no-count h = simp (lt-ltb (length input) 2 h)
 
-  pub other-count : 2 ≤ length input → (number_at input 0 ≡ 5 → ⊥) → Faulty 20 ≡ opening_of input
+  pub other-count : 2 ≤ length input → (number_at input 0 ≡ 5 → ⊥) → Err FirstCount ≡ opening_of input
   unfolding opening_of
   other-count h ne = simp (le-ltb (length input) 2 h, ne_eqb (number_at input 0) 5 ne)
 
   module _ (h : 2 ≤ length input) (five : number_at input 0 ≡ 5) where
-    pub cut : length input < events_count_at input + 2 → Faulty 21 ≡ opening_of input
+    pub cut : length input < events_count_at input + 2 → Err EndsEarly ≡ opening_of input
     unfolding opening_of
     cut l = simp (le-ltb (length input) 2 h, eq-eqb (number_at input 0) 5 five, lt-ltb (length input) (events_count_at input + 2) l)
 
     pub opened : (a : Params) (m s e : ℕ) → a ≡ params_of input → m ≡ number_at input 12 → s ≡ number_at input (14 + m)
         → e ≡ number_at input (14 + m + 2 + s) → 14 + m + 2 + s + 2 ≤ length input
-        → Whole (record {
+        → Ok (record {
           params = a;
           message = record { at = 14; count = m };
           slack = record { at = 14 + m + 2; count = s };

@@ -1,16 +1,20 @@
 -- The bytes of a season file (document 01, "The season program"; document 02, 2026-04). A byte that the input does not have counts as 00 here; the definitions ask for the
 -- length before they use it. Assumes nothing.
-use Rattle.std.specs.Prelude.{Bool, cond, ◌||◌, List, ℕ, ◌+◌, ◌*◌, ltb, eqb, length, get_or, take, drop}
+use Rattle.std.specs.Prelude.{Bool, true, cond, ◌||◌, List, ℕ, ◌+◌, ◌*◌, ltb, eqb, length, get_or, take, drop, ◌≡◌, Result, Ok, Err, MatchResult}
 use Rattle.params.specs.Nodes.{size}
 use Rattle.params.specs.declared.Params.{Params}
 use Rattle.params.specs.declared.NodeSet.{NodeSet}
 use Rattle.season_file.specs.declared.Span.{Span}
 use Rattle.season_file.specs.declared.Event.{Event}
 use Rattle.season_file.specs.declared.Event.TheVariants.{Update, Repair, Damage, Decode, Reconfigure}
-use Rattle.season_file.specs.declared.Item.{Item}
-use Rattle.season_file.specs.declared.Item.TheVariants as item
-use Rattle.season_file.specs.declared.Opening.{Opening}
-use Rattle.season_file.specs.declared.Opening.TheVariants as opening
+use Rattle.season_file.specs.declared.Kind.{Kind}
+use Rattle.season_file.specs.declared.Kind.TheVariants as kind
+use Rattle.season_file.specs.declared.UnknownKind.{UnknownKind}
+use Rattle.season_file.specs.declared.Header.{Header}
+use Rattle.season_file.specs.declared.Found.{Found}
+use Rattle.season_file.specs.declared.Fault.{Fault}
+use Rattle.season_file.specs.declared.FileFault.{FileFault}
+use Rattle.season_file.specs.declared.FileFault.TheVariants.{FirstCount, EndsEarly, KindUnknown, LeftOver}
 
 -- "Numbers have two bytes, choices four, highest byte first."
 unfoldable pub number_at : List ℕ → ℕ → ℕ
@@ -26,6 +30,13 @@ bytes_of input s = take s.count (drop s.at input)
 
 abbrev pub set : List ℕ → ℕ → NodeSet
 set input at = record { 0 = choice_at input at }
+
+-- the numbers of the file faults: "20 first count is not 5; 21 bytes end early; 22 kind unknown; 23 bytes left over"
+abbrev pub number_of : FileFault → ℕ
+number_of FirstCount = 20
+number_of EndsEarly = 21
+number_of KindUnknown = 22
+number_of LeftOver = 23
 
 -- ---- the sections before the events
 
@@ -51,12 +62,12 @@ events_count_at input = slack_count_at input + 2 + number_at input (slack_count_
 
 -- "All four counts, and the bytes of the first three sections, are read before the set-up is tried, and a fault among them is event 0's; the first count is
 -- tested before anything after it is read." "20 first count is not 5; 21 bytes end early".
-unfoldable pub opening_of : List ℕ → Opening
+unfoldable pub opening_of : List ℕ → Result Header FileFault
 opening_of input =
-    cond (ltb (length input) 2) (opening.Faulty 21)
+    cond (ltb (length input) 2) (Err EndsEarly)
     (cond (eqb (number_at input 0) 5)
-    (cond (ltb (length input) (events_count_at input + 2)) (opening.Faulty 21)
-    (opening.Whole
+    (cond (ltb (length input) (events_count_at input + 2)) (Err EndsEarly)
+    (Ok
     (record {
       params = params_of input;
       message = record { at = 14; count = number_at input 12 };
@@ -64,7 +75,7 @@ opening_of input =
       events = number_at input (events_count_at input);
       at = events_count_at input + 2;
     })))
-    (opening.Faulty 20))
+    (Err FirstCount))
 
 -- ---- events
 
@@ -120,19 +131,32 @@ end_of a input at kind = at + fixed kind + following a input at kind
 abbrev pub unknown : ℕ → Bool
 unknown kind = eqb kind 0 || ltb 5 kind
 
--- a fault: the kind that its line tells, and its number
-abbrev pub fault_of : ℕ → ℕ → Item
-fault_of kind number = item.Faulty (record { kind = kind; number = number })
+-- the byte that stands for a kind
+abbrev pub code_of : Kind → ℕ
+code_of kind.Update = 1
+code_of kind.Repair = 2
+code_of kind.Damage = 3
+code_of kind.Decode = 4
+code_of kind.Reconfigure = 5
+
+-- a byte is read as the kind for which it stands, or as unknown
+abbrev pub Decodes : ℕ → Result Kind UnknownKind → Type 0
+Decodes byte r = MatchResult r (λ kind. code_of kind ≡ byte) (λ e. (e.0 ≡ byte) × (unknown byte ≡ true))
+
+-- a fault, and the kind that its line tells
+abbrev pub fault_of : ℕ → FileFault → Fault
+fault_of kind fault = record { kind = kind; fault = fault }
 
 -- "All of an event's fields are read before it is tried." "21 bytes end early": what stands behind a known kind, whose fields begin at `at`
-unfoldable pub fields_at : Params → List ℕ → ℕ → ℕ → Item
+unfoldable pub fields_at : Params → List ℕ → ℕ → ℕ → Result Found Fault
 fields_at a input at kind =
-    cond (ltb (length input) (end_of a input at kind)) (fault_of kind 21)
-    (item.Whole (record { event = event_at a input at kind; next = end_of a input at kind }))
+    cond (ltb (length input) (end_of a input at kind)) (Err (fault_of kind EndsEarly))
+    (Ok (record { event = event_at a input at kind; next = end_of a input at kind }))
 
 -- "22 kind unknown", with "its kind (0 if unread)".
-unfoldable pub item_at : Params → List ℕ → ℕ → Item
+unfoldable pub item_at : Params → List ℕ → ℕ → Result Found Fault
 unfolding fields_at
 item_at a input at =
     cond (ltb at (length input))
-    (cond (unknown (get_or input at 0)) (fault_of (get_or input at 0) 22) (fields_at a input (at + 1) (get_or input at 0))) (fault_of 0 21)
+    (cond (unknown (get_or input at 0)) (Err (fault_of (get_or input at 0) KindUnknown)) (fields_at a input (at + 1) (get_or input at 0)))
+    (Err (fault_of 0 EndsEarly))

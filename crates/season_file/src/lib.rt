@@ -4,8 +4,9 @@
 
 pub mod parsing;
 
-ghost use Rattle.std.specs.Prelude.{◌≡◌, ◌*◌};
-ghost use Rattle.season_file.specs.Lengths.{capped};
+ghost use Rattle.std.specs.Prelude.{◌≡◌};
+ghost use Rattle.season_file.specs.File.{code_of, number_of, kind_of, fault_of, Decodes};
+ghost use Rattle.season_file.specs.declared.FileFault.TheVariants.{KindUnknown};
 
 use params::{NodeSet, Params, Shape};
 
@@ -63,6 +64,59 @@ pub enum Event {
     Reconfigure(ReconfigureFields),
 }
 
+impl Event {
+    pub fn kind(self) -> Kind
+        ensures { code_of result ≡ kind_of self }
+    {
+        match self {
+            Event::Update(_) => Kind::Update,
+            Event::Repair(_) => Kind::Repair,
+            Event::Damage(_) => Kind::Damage,
+            Event::Decode(_) => Kind::Decode,
+            Event::Reconfigure(_) => Kind::Reconfigure,
+        }
+    }
+}
+
+// The kinds of events, by the byte that each has in the file.
+#[derive(Clone, Copy, PartialEq, Eq)]
+pub enum Kind {
+    Update = 1,
+    Repair,
+    Damage,
+    Decode,
+    Reconfigure,
+}
+
+// A byte that is no event's kind.
+#[derive(Clone, Copy, PartialEq, Eq)]
+pub struct UnknownKind(pub u8);
+
+impl TryFrom<u8> for Kind {
+    type Error = UnknownKind;
+
+    ghost try_from_gives = { Decodes };
+
+    fn try_from(byte: u8) -> Result<Self, UnknownKind> {
+        match byte {
+            1 => Ok(Kind::Update),
+            2 => Ok(Kind::Repair),
+            3 => Ok(Kind::Damage),
+            4 => Ok(Kind::Decode),
+            5 => Ok(Kind::Reconfigure),
+            _ => Err(UnknownKind(byte)),
+        }
+    }
+}
+
+impl From<Kind> for u8 {
+    ghost from_gives = { λ kind byte. byte ≡ code_of kind };
+
+    fn from(kind: Kind) -> u8 {
+        kind as u8
+    }
+}
+
 // An event, and where the next one begins.
 #[derive(Clone, Copy)]
 pub struct Found {
@@ -70,18 +124,39 @@ pub struct Found {
     pub next: usize,
 }
 
-// A file fault at an event: the event's kind (0 if unread) and the fault's number.
-#[derive(Clone, Copy)]
-pub struct Fault {
-    pub kind: u8,
-    pub number: u32,
+// What ends a run at a file, by the number that its line tells.
+#[derive(Clone, Copy, PartialEq, Eq)]
+pub enum FileFault {
+    FirstCount = 20,
+    EndsEarly,
+    KindUnknown,
+    LeftOver,
 }
 
-// What stands at a place of the input where an event is to begin.
-#[derive(Clone, Copy)]
-pub enum Item {
-    Faulty(Fault),
-    Whole(Found),
+impl From<FileFault> for u32 {
+    ghost from_gives = { λ fault number. number ≡ number_of fault };
+
+    fn from(fault: FileFault) -> u32 {
+        fault as u32
+    }
+}
+
+// A file fault at an event, and the event's kind as its line tells it: its byte, or 0 if that is unread.
+#[derive(Clone, Copy, PartialEq, Eq)]
+pub struct Fault {
+    pub kind: u8,
+    pub fault: FileFault,
+}
+
+impl From<UnknownKind> for Fault {
+    ghost from_gives = { λ unknown fault. fault ≡ fault_of unknown.0 KindUnknown };
+
+    fn from(unknown: UnknownKind) -> Fault {
+        Fault {
+            kind: unknown.0,
+            fault: FileFault::KindUnknown,
+        }
+    }
 }
 
 // The first three sections and the count of events.
@@ -93,24 +168,4 @@ pub struct Header {
     pub events: usize,
     // where the first event begins
     pub at: usize,
-}
-
-// What the input begins with: a fault of event 0, or all that is read before the set-up is tried.
-#[derive(Clone, Copy)]
-pub enum Opening {
-    Faulty(u32),
-    Whole(Header),
-}
-
-// How many bytes count blocks of a size have; the largest usize where they have more.
-fn area(count: usize, size: usize) -> usize
-    ensures { result ≡ capped (count * size) }
-{
-    if size == 0 {
-        return 0;
-    }
-    if usize::MAX / size < count {
-        return usize::MAX;
-    }
-    count * size
 }

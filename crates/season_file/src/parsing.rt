@@ -1,15 +1,15 @@
 // What the bytes of a season file say.
-ghost use Rattle.std.specs.Prelude.{◌≡◌, ◌+◌, ◌≤◌, ◌<◌, length};
-ghost use Rattle.season_file.specs.File.{number_at, choice_at, params_of, opening_of, fixed, following, event_at, unknown, fault_of, fields_at, item_at};
+ghost use Rattle.std.specs.Prelude.{◌≡◌, ◌+◌, ◌≤◌, ◌<◌, ◌^◌, length, MatchResult};
+ghost use Rattle.season_file.specs.File.{number_at, choice_at, params_of, opening_of, code_of, fixed, following, event_at, fields_at, item_at};
 ghost use Rattle.season_file.specs.Lengths.{capped};
+ghost use Rattle.season_file.specs.declared.FileFault.TheVariants.{EndsEarly};
 ghost use Rattle.season_file.specs.declared.Event.TheVariants.{Reconfigure};
 ghost use Rattle.params.specs.declared.Params.{Params};
 
 use super::{
-    DamageFields, DecodeFields, Event, Fault, Found, Header, Item, Opening, ReconfigureFields,
-    RepairFields, Span, UpdateFields, area,
+    DamageFields, DecodeFields, Event, Fault, FileFault, Found, Header, Kind, ReconfigureFields,
+    RepairFields, Span, UpdateFields,
 };
-use base::wide;
 use params::{NodeSet, Params, Shape};
 
 // A number of two bytes, highest byte first.
@@ -17,9 +17,7 @@ fn number_at(input: &[u8], at: usize) -> usize
     requires { at + 2 ≤ length input.now }
     ensures { (result ≡ number_at input.now at) × (result < 65536) }
 {
-    let high = wide(input[at]);
-    let low = wide(input[at + 1]);
-    high * 256 + low
+    usize::from(u16::from_be_bytes([input[at], input[at + 1]]))
 }
 
 // A choice of four bytes, highest byte first.
@@ -27,35 +25,22 @@ fn set_at(input: &[u8], at: usize) -> NodeSet
     requires { at + 4 ≤ length input.now }
     ensures { result.0 ≡ choice_at input.now at }
 {
-    let high = number_at(input, at);
-    let low = number_at(input, at + 2);
-    NodeSet((high * 65536 + low) as u32)
+    NodeSet(u32::from_be_bytes([input[at], input[at + 1], input[at + 2], input[at + 3]]))
 }
 
 // The first three sections and the four counts. The first count is tested before anything after it is read.
-pub fn open(input: &[u8]) -> Opening
+pub fn open(input: &[u8]) -> Result<Header, FileFault>
     ensures { result ≡ opening_of input.now }
 {
-    if input.len() < 2 {
-        return Opening::Faulty(21);
+    if count_at(input, 0)? != 5 {
+        return Err(FileFault::FirstCount);
     }
-    if number_at(input, 0) != 5 {
-        return Opening::Faulty(20);
-    }
-    if input.len() < 14 {
-        return Opening::Faulty(21);
-    }
-    let message = number_at(input, 12);
+    let message = count_at(input, 12)?;
     let slack_at = 14 + message;
-    if input.len() < slack_at + 2 {
-        return Opening::Faulty(21);
-    }
-    let slack = number_at(input, slack_at);
+    let slack = count_at(input, slack_at)?;
     let events_at = slack_at + 2 + slack;
-    if input.len() < events_at + 2 {
-        return Opening::Faulty(21);
-    }
-    Opening::Whole(Header {
+    let events = count_at(input, events_at)?;
+    Ok(Header {
         params: params_at(input),
         message: Span {
             at: 14,
@@ -65,9 +50,20 @@ pub fn open(input: &[u8]) -> Opening
             at: slack_at + 2,
             count: slack,
         },
-        events: number_at(input, events_at),
+        events,
         at: events_at + 2,
     })
+}
+
+// A number that the input may be too short for.
+fn count_at(input: &[u8], at: usize) -> Result<usize, FileFault>
+    requires { at < 2 ^ 32 }
+    ensures { MatchResult result (λ count. (at + 2 ≤ length input.now) × (count ≡ number_at input.now at) × (count < 65536)) (λ fault. (fault ≡ EndsEarly) × (length input.now < at + 2)) }
+{
+    if input.len() < at + 2 {
+        return Err(FileFault::EndsEarly);
+    }
+    Ok(number_at(input, at))
 }
 
 // The arrangement of the first section.
@@ -85,110 +81,96 @@ fn params_at(input: &[u8]) -> Params
 }
 
 // What stands at a place where an event is to begin: the kind and all its fields, or a fault.
-pub fn parse(a: Params, input: &[u8], at: usize) -> Item
+pub fn parse(a: Params, input: &[u8], at: usize) -> Result<Found, Fault>
     ensures { result ≡ item_at a input.now at }
 {
     if input.len() <= at {
-        return faulty(0, 21);
+        return Err(Fault {
+            kind: 0,
+            fault: FileFault::EndsEarly,
+        });
     }
-    let kind = input[at];
-    if is_unknown(kind) {
-        return faulty(kind, 22);
-    }
+    let kind = Kind::try_from(input[at])?;
     fields_at(a, input, at + 1, kind)
 }
 
-fn faulty(kind: u8, number: u32) -> Item
-    ensures { result ≡ fault_of kind number }
-{
-    Item::Faulty(Fault { kind, number })
-}
-
-fn is_unknown(kind: u8) -> bool
-    ensures { result ≡ unknown kind }
-{
-    if kind == 0 {
-        return true;
-    }
-    5 < kind
-}
-
-// The event of a known kind whose fields begin at `at`, or a fault if the bytes end before they do.
-fn fields_at(a: Params, input: &[u8], at: usize, kind: u8) -> Item
+// The event of a kind whose fields begin at `at`, or a fault if the bytes end before they do.
+fn fields_at(a: Params, input: &[u8], at: usize, kind: Kind) -> Result<Found, Fault>
     requires { (1 ≤ at) × (at ≤ length input.now) }
-    ensures { result ≡ fields_at a input.now at kind }
+    ensures { result ≡ fields_at a input.now at (code_of kind) }
 {
+    let early = Fault {
+        kind: u8::from(kind),
+        fault: FileFault::EndsEarly,
+    };
     let count = fixed(kind);
     if input.len() - at < count {
-        return faulty(kind, 21);
+        return Err(early);
     }
     let start = at + count;
     let blocks = following(a, input, at, kind);
     if input.len() - start < blocks {
-        return faulty(kind, 21);
+        return Err(early);
     }
-    Item::Whole(Found {
+    Ok(Found {
         event: event_at(input, at, kind, blocks),
         next: start + blocks,
     })
 }
 
 // How many bytes the fields before the block bytes have.
-fn fixed(kind: u8) -> usize
-    ensures { result ≡ fixed kind }
+fn fixed(kind: Kind) -> usize
+    ensures { result ≡ fixed (code_of kind) }
 {
     match kind {
-        1 => 4,
-        2 => 8,
-        3 => 4,
-        4 => 4,
-        _ => 16,
+        Kind::Update | Kind::Damage | Kind::Decode => 4,
+        Kind::Repair => 8,
+        Kind::Reconfigure => 16,
     }
 }
 
 // How many block bytes follow those fields, the largest usize where there are more: by the arrangement in force, for damage by the size of its set, whichever
 // nodes are in it, for a rearrangement by the new k.
-fn following(a: Params, input: &[u8], at: usize, kind: u8) -> usize
-    requires { at + fixed kind ≤ length input.now }
-    ensures { result ≡ capped (following a input.now at kind) }
+fn following(a: Params, input: &[u8], at: usize, kind: Kind) -> usize
+    requires { at + fixed (code_of kind) ≤ length input.now }
+    ensures { result ≡ capped (following a input.now at (code_of kind)) }
 {
     match kind {
-        1 => area(a.k, a.b),
-        2 => 0,
-        3 => {
+        Kind::Update => a.k.saturating_mul(a.b),
+        Kind::Damage => {
             let nodes = set_at(input, at);
-            area(nodes.size(), a.b)
+            nodes.size().saturating_mul(a.b)
         }
-        4 => 0,
-        _ => {
+        Kind::Reconfigure => {
             let k = number_at(input, at + 4);
-            area(k, a.b)
+            k.saturating_mul(a.b)
         }
+        Kind::Repair | Kind::Decode => 0,
     }
 }
 
 // The event of a kind whose fields begin at `at`, with `count` block bytes.
-fn event_at(input: &[u8], at: usize, kind: u8, count: usize) -> Event
-    requires { at + fixed kind ≤ length input.now }
-    ensures { (a : Params) → count ≡ following a input.now at kind → result ≡ event_at a input.now at kind }
+fn event_at(input: &[u8], at: usize, kind: Kind, count: usize) -> Event
+    requires { at + fixed (code_of kind) ≤ length input.now }
+    ensures { (a : Params) → count ≡ following a input.now at (code_of kind) → result ≡ event_at a input.now at (code_of kind) }
 {
     match kind {
-        1 => Event::Update(UpdateFields {
+        Kind::Update => Event::Update(UpdateFields {
             to: set_at(input, at),
             change: Span { at: at + 4, count },
         }),
-        2 => Event::Repair(RepairFields {
+        Kind::Repair => Event::Repair(RepairFields {
             from: set_at(input, at),
             lost: set_at(input, at + 4),
         }),
-        3 => Event::Damage(DamageFields {
+        Kind::Damage => Event::Damage(DamageFields {
             nodes: set_at(input, at),
             blocks: Span { at: at + 4, count },
         }),
-        4 => Event::Decode(DecodeFields {
+        Kind::Decode => Event::Decode(DecodeFields {
             from: set_at(input, at),
         }),
-        _ => Event::Reconfigure(reconfigure_at(input, at, count)),
+        Kind::Reconfigure => Event::Reconfigure(reconfigure_at(input, at, count)),
     }
 }
 

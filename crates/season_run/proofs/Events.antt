@@ -14,6 +14,7 @@ use Rattle.field.proofs.Bytes.{bytes-tabulate, bytes_take, bytes_drop}
 use Rattle.params.specs.declared.Params.{Params}
 use Rattle.serials.specs.Serials.{Words32}
 use Rattle.ledger.specs.Ledger.{Held, Typed}
+use Rattle.std.specs.Prelude.{Ok, Err}
 use Rattle.season_file.specs.File.{number_at, choice_at, bytes_of, events_count_at, opening_of, event_at, end_of, unknown, item_at}
 use Rattle.season_file.specs.declared.Span.{Span}
 use Rattle.season_file.specs.declared.Event.{Event}
@@ -21,8 +22,7 @@ use Rattle.season_file.specs.declared.Event.TheVariants.{Update, Repair, Damage,
 use Rattle.season_file.specs.declared.Fault.{Fault}
 use Rattle.season_file.specs.declared.Found.{Found}
 use Rattle.season_file.specs.declared.Header.{Header}
-use Rattle.season_file.specs.declared.Item.TheVariants as item
-use Rattle.season_file.specs.declared.Opening.TheVariants as opening
+use Rattle.season_file.specs.declared.FileFault.{FileFault}
 use Rattle.season_effects.specs.Events.{listed}
 use Rattle.season_effects.specs.Effects.{InFull}
 
@@ -44,8 +44,8 @@ choice-small input at h = omega (arith, h at, h (at + 1), h (at + 2), h (at + 2 
 -- ---- the sections before the events
 
 -- the one choice that ends at a header
-header_of : (b₁ b₂ b₃ : Bool) (u v w : ℕ) (h hd : Header)
-    → cond b₁ (opening.Faulty u) (cond b₂ (cond b₃ (opening.Faulty v) (opening.Whole h)) (opening.Faulty w)) ≡ opening.Whole hd
+header_of : (b₁ b₂ b₃ : Bool) (u v w : FileFault) (h hd : Header)
+    → cond b₁ (Err u) (cond b₂ (cond b₃ (Err v) (Ok h)) (Err w)) ≡ Ok hd
     → (b₃ ≡ false) × (h ≡ hd)
 header_of true b₂ b₃ u v w h hd e = let z : ◌≡◌ {A = ℕ} 0 1 = cc in absurd (omega arith)
 header_of false true true u v w h hd e = let z : ◌≡◌ {A = ℕ} 0 1 = cc in absurd (omega arith)
@@ -53,7 +53,7 @@ header_of false true false u v w h hd e = (refl, cc)
 header_of false false b₃ u v w h hd e = let z : ◌≡◌ {A = ℕ} 0 1 = cc in absurd (omega arith)
 
 -- message and slack stand within the input
-pub header-inside : (input : List ℕ) (hd : Header) → opening_of input ≡ opening.Whole hd
+pub header-inside : (input : List ℕ) (hd : Header) → opening_of input ≡ Ok hd
     → (hd.message.at + hd.message.count ≤ length input) × (hd.slack.at + hd.slack.count ≤ length input)
 unfolding opening_of
 header-inside input hd e =
@@ -63,7 +63,7 @@ header-inside input hd e =
     (omega arith, omega arith)
 
 -- the count of events has two bytes
-pub header-counted : (input : List ℕ) (hd : Header) → Bytes input → opening_of input ≡ opening.Whole hd → hd.events < 65536
+pub header-counted : (input : List ℕ) (hd : Header) → Bytes input → opening_of input ≡ Ok hd → hd.events < 65536
 unfolding opening_of number_at
 header-counted input hd bytes e =
     let w = header_of (ltb (length input) 2) (eqb (number_at input 0) 5) (ltb (length input) (events_count_at input + 2)) _ _ _ _ hd e in
@@ -105,13 +105,13 @@ event-good a input at kind =
 
 -- the one choice that ends at an event
 whole_of : (b₁ b₂ b₃ : Bool) (u v w : Fault) (g f : Found)
-    → cond b₁ (cond b₂ (item.Faulty u) (cond b₃ (item.Faulty v) (item.Whole g))) (item.Faulty w) ≡ item.Whole f → (b₃ ≡ false) × (g ≡ f)
+    → cond b₁ (cond b₂ (Err u) (cond b₃ (Err v) (Ok g))) (Err w) ≡ Ok f → (b₃ ≡ false) × (g ≡ f)
 whole_of true true b₃ u v w g f e = let z : ◌≡◌ {A = ℕ} 0 1 = cc in absurd (omega arith)
 whole_of true false true u v w g f e = let z : ◌≡◌ {A = ℕ} 0 1 = cc in absurd (omega arith)
 whole_of true false false u v w g f e = (refl, cc)
 whole_of false b₂ b₃ u v w g f e = let z : ◌≡◌ {A = ℕ} 0 1 = cc in absurd (omega arith)
 
-pub found-good : (a : Params) (input : List ℕ) (at : ℕ) (f : Found) → item_at a input at ≡ item.Whole f → Good a input f.event
+pub found-good : (a : Params) (input : List ℕ) (at : ℕ) (f : Found) → item_at a input at ≡ Ok f → Good a input f.event
 unfolding item_at
 found-good a input at f e =
     let kind : ℕ = get_or input at 0 in

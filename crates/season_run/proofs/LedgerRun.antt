@@ -18,6 +18,7 @@ use Rattle.ledger.proofs.Invariant.{given-in-force}
 use Rattle.ledger.proofs.Lists.{goes_on}
 use Rattle.ledger.proofs.Whole.{history-whole}
 use Rattle.ledger.proofs.Demand3.{reading-is-ledger}
+use Rattle.std.specs.Prelude.{Ok}
 use Rattle.season_file.specs.File.{bytes_of, item_at}
 use Rattle.season_lines.specs.Lines.{line_of}
 use Rattle.season_answers.specs.Answers.{answer_of}
@@ -25,7 +26,6 @@ use Rattle.season_file.specs.declared.Event.{Event}
 use Rattle.season_file.specs.declared.Event.TheVariants.{Update, Repair, Damage, Decode, Reconfigure}
 use Rattle.season_file.specs.declared.DecodeFields.{DecodeFields}
 use Rattle.season_file.specs.declared.Found.{Found}
-use Rattle.season_file.specs.declared.Item.TheVariants as item
 use Rattle.season_effects.specs.Events.{listed, Prints}
 use Rattle.season_run.specs.Season.{Tried, Place, Outcome, on, Goes, Runs, Season}
 use Rattle.season_run.specs.Season as season
@@ -101,7 +101,7 @@ allowed h m input number (Reconfigure f) p u = (given-in-force h, record { undam
 
 module _ (input : List ℕ) (bytes : Bytes input) where
   -- what an event of the run does is a step
-  pub step_of : {here : Place} {line : List ℕ} {here' : Place} (f : Found) → item_at here.stands.params input here.at ≡ item.Whole f
+  pub step_of : {here : Place} {line : List ℕ} {here' : Place} (f : Found) → item_at here.stands.params input here.at ≡ Ok f
       → Goes input here line (on here') → Step here.stands (listed_at input here f) (answer_at here f) here'.stands
   step_of {here = here} f i (season.tried left g line h' z i' t) =
       let e : g ≡ f = cc in subst (λ (f : Found). Step here.stands (listed_at input here f) (answer_at here f) h') e t.step
@@ -130,7 +130,7 @@ module _ (input : List ℕ) (bytes : Bytes input) where
 
   -- If moreover the next event is an accepted reading through undamaged nodes, it prints the ledger.
   module _ {events : List ledger.Event} {here : Place} {m : Machine} (r : Reached input events here m) (u : ReadsUndamaged r) (f : DecodeFields) (after : ℕ)
-      (found : item_at here.stands.params input here.at ≡ item.Whole (record { event = Decode f; next = after }))
+      (found : item_at here.stands.params input here.at ≡ Ok (record { event = Decode f; next = after }))
       (accepted : answer_of here.stands.params here.number (Decode f) ≡ 0) (undamaged : Undamaged m f.from.0) where
     pub season-prints-ledger : (message : List ℕ) → Prints here.stands here.number (Decode f) message → message ≡ m.ledger
     season-prints-ledger message p =

@@ -13,11 +13,10 @@ use Rattle.params.specs.declared.Params.{Params}
 use Rattle.gates.specs.Gates.{params_asked}
 use Rattle.gates.specs.Valid.{Valid}
 use Rattle.gates.proofs.Valid.{valid-of, params-yes}
+use Rattle.std.specs.Prelude.{Option, None, Some}
 use Rattle.season_lines.specs.Lines.{Wrote}
 use Rattle.season_run.specs.Season.{Place, Outcome, place_of, outcome_of, record_end, serials_end, Room, Turned, Idle, BeginPost, Standing, TurnPost}
 use Rattle.season_run.specs.declared.State.{State}
-use Rattle.season_run.specs.declared.Next.{Next}
-use Rattle.season_run.specs.declared.Next.TheVariants.{End, On}
 use Rattle.season_run.specs.declared.Turn.{Turn}
 use Rattle.season_run.proofs.Output.{goes-once, opens-once}
 
@@ -52,7 +51,7 @@ standing-or s =
 
 -- ---- what the outcome says of how the run goes on, and of the buffers' fronts
 
-record SameFronts (m m' : Next) (buffer buffer' serials serials' : List ℕ) : Type 0 where
+record SameFronts (m m' : Option State) (buffer buffer' serials serials' : List ℕ) : Type 0 where
   goes_on : m ≡ m'
   record_same : take (record_end m) buffer ≡ take (record_end m) buffer'
   serials_same : take (serials_end m) serials ≡ take (serials_end m) serials'
@@ -61,15 +60,15 @@ record SameFronts (m m' : Next) (buffer buffer' serials serials' : List ℕ) : T
 abbrev state_of : Place → State
 state_of p = record { params = p.stands.params; number = p.number; left = p.left; at = p.at }
 
-fronts-once : (m m' : Next) (buffer buffer' serials serials' : List ℕ) → outcome_of m buffer serials ≡ outcome_of m' buffer' serials'
+fronts-once : (m m' : Option State) (buffer buffer' serials serials' : List ℕ) → outcome_of m buffer serials ≡ outcome_of m' buffer' serials'
     → SameFronts m m' buffer buffer' serials serials'
-fronts-once End End buffer buffer' serials serials' e = record { goes_on = refl; record_same = refl; serials_same = refl }
-fronts-once End (On s) buffer buffer' serials serials' e = let q : ◌≡◌ {A = ℕ} 0 1 = cc in absurd (omega arith)
-fronts-once (On s) End buffer buffer' serials serials' e = let q : ◌≡◌ {A = ℕ} 0 1 = cc in absurd (omega arith)
-fronts-once (On s) (On s') buffer buffer' serials serials' e =
+fronts-once None None buffer buffer' serials serials' e = record { goes_on = refl; record_same = refl; serials_same = refl }
+fronts-once None (Some s) buffer buffer' serials serials' e = let q : ◌≡◌ {A = ℕ} 0 1 = cc in absurd (omega arith)
+fronts-once (Some s) None buffer buffer' serials serials' e = let q : ◌≡◌ {A = ℕ} 0 1 = cc in absurd (omega arith)
+fronts-once (Some s) (Some s') buffer buffer' serials serials' e =
     let p : place_of s buffer serials ≡ place_of s' buffer' serials' = cc in
     record {
-      goes_on = ap (λ (p : Place). On (state_of p)) p;
+      goes_on = ap (λ (p : Place). Some (state_of p)) p;
       record_same =
           ap (λ (p : Place). p.stands.codeword) p ∙ ap (λ (p : Place). take (p.stands.params.n * p.stands.params.b) buffer') (sym p);
       serials_same = ap (λ (p : Place). p.stands.serials) p ∙ ap (λ (p : Place). take p.stands.params.n serials') (sym p);
@@ -88,7 +87,7 @@ wrote-once {old = old} e w w' = (
 
 -- ---- the two contracts
 
-abbrev made : ℕ → Next → Turn
+abbrev made : ℕ → Option State → Turn
 made written next = record { written = written; next = next }
 
 module _ (buffer serials line : List ℕ) {t t₁ : Turn} {buffer' buffer'' serials' serials'' line' line'' : List ℕ} where
@@ -102,9 +101,9 @@ module _ (buffer serials line : List ℕ) {t t₁ : Turn} {buffer' buffer'' seri
       let w = wrote-once r.0 x.wrote y.wrote in (
         ap₂ made w.0 f.goes_on,
         whole-once (record_end t.next) buffer' buffer'' f.record_same
-            (x.rest ∙ sym (subst (λ (m : Next). drop (record_end m) buffer'' ≡ drop (record_end m) buffer) (sym f.goes_on) y.rest)),
+            (x.rest ∙ sym (subst (λ (m : Option State). drop (record_end m) buffer'' ≡ drop (record_end m) buffer) (sym f.goes_on) y.rest)),
         whole-once (serials_end t.next) serials' serials'' f.serials_same
-            (x.serials_rest ∙ sym (subst (λ (m : Next). drop (serials_end m) serials'' ≡ drop (serials_end m) serials) (sym f.goes_on) y.serials_rest)),
+            (x.serials_rest ∙ sym (subst (λ (m : Option State). drop (serials_end m) serials'' ≡ drop (serials_end m) serials) (sym f.goes_on) y.serials_rest)),
         w.1,
       )
 

@@ -19,7 +19,8 @@ use Rattle.code.proofs.Theorems.{decode-message}
 use Rattle.ledger.specs.Ledger.{Held, begun, History}
 use Rattle.ledger.specs.Ledger as ledger
 use Rattle.ledger.proofs.Whole.{Whole, step-whole, history-whole, step-exists, step-unique}
-use Rattle.season_file.specs.File.{bytes_of, opening_of, item_at, kind_of}
+use Rattle.std.specs.Prelude.{Result, Ok, Err}
+use Rattle.season_file.specs.File.{bytes_of, opening_of, item_at, kind_of, number_of}
 use Rattle.season_lines.specs.Lines.{line_of}
 use Rattle.season_answers.specs.Answers.{answer_of}
 use Rattle.season_file.specs.declared.Event.{Event}
@@ -27,10 +28,7 @@ use Rattle.season_file.specs.declared.Event.TheVariants.{Update, Repair, Damage,
 use Rattle.season_file.specs.declared.Header.{Header}
 use Rattle.season_file.specs.declared.Fault.{Fault}
 use Rattle.season_file.specs.declared.Found.{Found}
-use Rattle.season_file.specs.declared.Item.{Item}
-use Rattle.season_file.specs.declared.Item.TheVariants as item
-use Rattle.season_file.specs.declared.Opening.{Opening}
-use Rattle.season_file.specs.declared.Opening.TheVariants as opening
+use Rattle.season_file.specs.declared.FileFault.{FileFault}
 use Rattle.season_effects.specs.Events.{listed, Prints}
 use Rattle.season_run.specs.Season.{Tried, Place, Outcome, ended, on, Goes, over, leftover, faulty, tried, set_up_answer, Opens, refused}
 use Rattle.season_run.specs.Season.{opened, Runs, done, turn, Season, season, FileOutput}
@@ -103,7 +101,7 @@ module _ (input : List ℕ) where
   goes-once (faulty more f z i) (over z' p') = absurd (omega arith)
   goes-once (faulty more f z i) (leftover z' p') = absurd (omega arith)
   goes-once {here} (faulty more f z i) (faulty more' f' z' i') =
-      let e : f ≡ f' = cc in (ap (λ (f : Fault). line_of here.number f.kind f.number []) e, refl)
+      let e : f ≡ f' = cc in (ap (λ (f : Fault). line_of here.number f.kind (number_of f.fault) []) e, refl)
   goes-once (faulty more f z i) (tried more' f' line h' z' i' t) = let q : ◌≡◌ {A = ℕ} 0 1 = cc in absurd (omega arith)
   goes-once (tried more f line h' z i t) (over z' p') = absurd (omega arith)
   goes-once (tried more f line h' z i t) (leftover z' p') = absurd (omega arith)
@@ -129,7 +127,7 @@ module _ (input : List ℕ) where
 
   pub opens-once : {line line' : List ℕ} {outcome outcome' : Outcome} → Opens input line outcome → Opens input line' outcome'
       → Same line line' outcome outcome'
-  opens-once (faulty fault i) (faulty fault' i') = let e : fault ≡ fault' = cc in (ap (λ (q : ℕ). line_of 0 0 q []) e, refl)
+  opens-once (faulty fault i) (faulty fault' i') = let e : fault ≡ fault' = cc in (ap (λ (q : FileFault). line_of 0 0 (number_of q) []) e, refl)
   opens-once (faulty fault i) (refused hd i' ne) = let q : ◌≡◌ {A = ℕ} 0 1 = cc in absurd (omega arith)
   opens-once (faulty fault i) (opened hd codeword serials i' post) = let q : ◌≡◌ {A = ℕ} 0 1 = cc in absurd (omega arith)
   opens-once (refused hd i ne) (faulty fault i') = let q : ◌≡◌ {A = ℕ} 0 1 = cc in absurd (omega arith)
@@ -170,7 +168,7 @@ module _ (input : List ℕ) (bytes : Bytes input) where
   -- ---- every run keeps a whole state
 
   -- the opening set-up is that of a list
-  pub opens-history : {line : List ℕ} {here : Place} (hd : Header) → opening_of input ≡ opening.Whole hd → Opens input line (on here)
+  pub opens-history : {line : List ℕ} {here : Place} (hd : Header) → opening_of input ≡ Ok hd → Opens input line (on here)
       → History [] here.stands (ledger.opened hd.params (bytes_of input hd.message))
   opens-history hd i (opened hd' codeword serials i' post) =
       let e : hd' ≡ hd = cc in
@@ -210,9 +208,9 @@ module _ (input : List ℕ) (bytes : Bytes input) where
   runs-more : (n : ℕ) → RunsWith n → RunsWith (suc n)
   runs-more n again here z (w, c) = go (item_at here.stands.params input here.at) refl
     where
-      go : (i : Item) → item_at here.stands.params input here.at ≡ i → (rest : List ℕ) × Runs input (on here) rest
-      go (item.Faulty f) i = (_, turn (faulty n f z i) done)
-      go (item.Whole f) i =
+      go : (i : Result Found Fault) → item_at here.stands.params input here.at ≡ i → (rest : List ℕ) × Runs input (on here) rest
+      go (Err f) i = (_, turn (faulty n f z i) done)
+      go (Ok f) i =
           let h = here.stands in
           let serial = here.number in
           let good = found-good h.params input here.at f i in
@@ -230,9 +228,9 @@ module _ (input : List ℕ) (bytes : Bytes input) where
   pub opens-exist : (line : List ℕ) × (outcome : Outcome) × Opens input line outcome
   opens-exist = go (opening_of input) refl
     where
-      go : (i : Opening) → opening_of input ≡ i → (line : List ℕ) × (outcome : Outcome) × Opens input line outcome
-      go (opening.Faulty fault) i = (_, _, faulty fault i)
-      go (opening.Whole hd) i =
+      go : (i : Result Header FileFault) → opening_of input ≡ i → (line : List ℕ) × (outcome : Outcome) × Opens input line outcome
+      go (Err fault) i = (_, _, faulty fault i)
+      go (Ok hd) i =
           ⊎_elim
           (λ z.
           let m =

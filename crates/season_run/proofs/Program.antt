@@ -12,6 +12,7 @@ use Rattle.field.specs.Field.{Bytes}
 use Rattle.field.proofs.Bytes.{bytes_take}
 use Rattle.gates.specs.Valid.{Valid}
 use Rattle.ledger.specs.Ledger.{Held, begun}
+use Rattle.std.specs.Prelude.{Option, None, Some}
 use Rattle.season_lines.specs.Lines.{line_of, Wrote}
 use Rattle.season_answers.specs.Answers.{answer_of}
 use Rattle.season_file.specs.declared.Event.{Event}
@@ -23,8 +24,6 @@ use Rattle.season_run.specs.Season.{Place, Outcome, ended, on, Goes, over, lefto
 use Rattle.season_run.specs.Season.{Season, season, FileOutput, place_of, outcome_of, Room, Turned, Standing}
 use Rattle.season_run.specs.Program.{Calls, began, turned, Ran}
 use Rattle.season_run.specs.declared.State.{State}
-use Rattle.season_run.specs.declared.Next.{Next}
-use Rattle.season_run.specs.declared.Next.TheVariants.{End, On}
 use Rattle.season_run.specs.declared.Turn.{Turn}
 use Rattle.season_effects.proofs.Fronts.{blocks-room, front-take, front-drop, front_length}
 use Rattle.season_run.proofs.Output.{Stands, opens-stands, goes-stands, runs-exist, opens-exist, output-unique}
@@ -47,14 +46,14 @@ message-fits h serial (Decode f) message v p =
 message-fits h serial (Reconfigure f) message v p = omega (arith, ap length p)
 
 opens-fits : {input line : List ℕ} {outcome : Outcome} → Opens input line outcome → length line ≤ 65600
-opens-fits (faulty fault i) = line-fits 0 0 fault [] (omega arith)
+opens-fits (faulty fault i) = line-fits 0 0 _ [] (omega arith)
 opens-fits (refused hd i ne) = line-fits 0 0 _ [] (omega arith)
 opens-fits (opened hd codeword serials i post) = line-fits 0 0 0 [] (omega arith)
 
 goes-fits : {input : List ℕ} {here : Place} {line : List ℕ} {outcome : Outcome} → Valid here.stands.params → Goes input here line outcome → length line ≤ 65600
 goes-fits v (over z p) = omega arith
 goes-fits v (leftover z p) = line-fits _ 0 23 [] (omega arith)
-goes-fits v (faulty more f z i) = line-fits _ f.kind f.number [] (omega arith)
+goes-fits v (faulty more f z i) = line-fits _ f.kind _ [] (omega arith)
 goes-fits {here = here} v (tried more f line h' z i t) =
     subst (λ (l : List ℕ). length l ≤ 65600) (sym t.line_is)
     (line-fits _ _ _ t.message (message-fits here.stands here.number f.event t.message v t.prints))
@@ -85,7 +84,7 @@ laid : (Result : List ℕ → Outcome → Type 0) (text : List ℕ) (o : Outcome
     → StandsAt o
     → (t : Turn) × (buffer' : List ℕ) × (serials' : List ℕ) × (line' : List ℕ) × Turned Result buffer serials line t buffer' serials' line'
 laid Result text ended buffer serials line room r w = (
-  record { written = length text; next = End },
+  record { written = length text; next = None },
   buffer,
   serials,
   text ++ drop (length text) line,
@@ -105,7 +104,7 @@ laid Result text (on here) buffer serials line room r (w, _) =
     let numbers = here.stands.serials in
     let fits : a.n * a.b ≤ length buffer = omega (arith, room.record_room, blocks-room a a.n w.valid (omega arith)) in
     let few : a.n ≤ length serials = omega (arith, room.serials_room, w.valid.shape.n_high) in (
-      record { written = length text; next = On (record { params = a; number = here.number; left = here.left; at = here.at }) },
+      record { written = length text; next = Some (record { params = a; number = here.number; left = here.left; at = here.at }) },
       new ++ drop (a.n * a.b) buffer,
       numbers ++ drop a.n serials,
       text ++ drop (length text) line,
@@ -145,12 +144,12 @@ module _ (input : List ℕ) (bytes : Bytes input) where
   stands-runs (on here) h = runs-exist input bytes here.left here refl h
 
   -- the room is there, the run stands well, and what is printed goes on to an output by every run from here
-  record Along (printed : List ℕ) (n : Next) (buffer serials line : List ℕ) : Type 0 where
+  record Along (printed : List ℕ) (n : Option State) (buffer serials line : List ℕ) : Type 0 where
     room : Room buffer serials line
     stands : StandsAt (outcome_of n buffer serials)
     goes_on : (rest : List ℕ) → Runs input (outcome_of n buffer serials) rest → Season input (printed ++ rest)
 
-  along : {buffer serials line printed : List ℕ} {n : Next} {buffer' serials' line' : List ℕ} → Room buffer serials line
+  along : {buffer serials line printed : List ℕ} {n : Option State} {buffer' serials' line' : List ℕ} → Room buffer serials line
       → Calls input buffer serials line printed n buffer' serials' line' → Along printed n buffer' serials' line'
   along {line = line} room (began {t} {line' = line'} post) =
       let r = post.served room in
@@ -177,12 +176,12 @@ module _ (input : List ℕ) (bytes : Bytes input) where
   module _ {buffer serials line : List ℕ} (room : Room buffer serials line) where
     -- No call is idle: wherever the calls get, the buffers have their room and a turn can start.
     pub program-stands : {printed : List ℕ} {s : State} {buffer' serials' line' : List ℕ}
-        → Calls input buffer serials line printed (On s) buffer' serials' line' → Room buffer' serials' line' × Standing s
+        → Calls input buffer serials line printed (Some s) buffer' serials' line' → Room buffer' serials' line' × Standing s
     program-stands {s = s} {buffer' = buffer'} {serials' = serials'} calls =
         let a = along room calls in (a.room, standing s buffer' serials' a.stands)
 
     -- What the calls have printed is the front of the output, ..
-    pub program-prefix : {printed : List ℕ} {n : Next} {buffer' serials' line' : List ℕ}
+    pub program-prefix : {printed : List ℕ} {n : Option State} {buffer' serials' line' : List ℕ}
         → Calls input buffer serials line printed n buffer' serials' line' → (rest : List ℕ) × Season input (printed ++ rest)
     program-prefix {n = n} {buffer' = buffer'} {serials' = serials'} calls =
         let a = along room calls in let r = stands-runs (outcome_of n buffer' serials') a.stands in (r.0, a.goes_on r.0 r.1)
@@ -194,49 +193,49 @@ module _ (input : List ℕ) (bytes : Bytes input) where
     -- ---- there is such a run
 
     -- from a place with fewer than so many events left
-    abbrev Below : Next → ℕ → Type 0
-    Below End n = Unit {0}
-    Below (On s) n = s.left < n
+    abbrev Below : Option State → ℕ → Type 0
+    Below None n = Unit {0}
+    Below (Some s) n = s.left < n
 
-    fewer : {text : List ℕ} (here : Place) (m : Next) (buffer' serials' : List ℕ) (n : ℕ) → here.left < suc n
+    fewer : {text : List ℕ} (here : Place) (m : Option State) (buffer' serials' : List ℕ) (n : ℕ) → here.left < suc n
         → Goes input here text (outcome_of m buffer' serials') → Below m n
-    fewer here End buffer' serials' n h g = tt
-    fewer here (On s') buffer' serials' n h g = omega (arith, (goes-next g).1)
+    fewer here None buffer' serials' n h g = tt
+    fewer here (Some s') buffer' serials' n h g = omega (arith, (goes-next g).1)
 
-    abbrev Ends : Next → Type 0
+    abbrev Ends : Option State → Type 0
     Ends m = (printed buffer' serials' line' : List ℕ) → Calls input buffer serials line printed m buffer' serials' line'
         → (output : List ℕ) × Ran input buffer serials line output
 
-    ends_now : Ends End
+    ends_now : Ends None
     ends_now printed buffer' serials' line' calls =
         (printed, record { buffer_left = buffer'; serials_left = serials'; line_left = line'; calls = calls })
 
     -- one turn more, whatever it leaves
-    ends-after : (n : ℕ) → ((m : Next) → Below m n → Ends m) → {printed : List ℕ} {s : State} {buffer' serials' line' : List ℕ} → s.left < suc n
-        → Calls input buffer serials line printed (On s) buffer' serials' line' → (t : Turn) (buffer'' serials'' line'' : List ℕ)
+    ends-after : (n : ℕ) → ((m : Option State) → Below m n → Ends m) → {printed : List ℕ} {s : State} {buffer' serials' line' : List ℕ} → s.left < suc n
+        → Calls input buffer serials line printed (Some s) buffer' serials' line' → (t : Turn) (buffer'' serials'' line'' : List ℕ)
         → Turned (Goes input (place_of s buffer' serials')) buffer' serials' line' t buffer'' serials'' line''
         → (output : List ℕ) × Ran input buffer serials line output
     ends-after n again {s = s} {buffer' = buffer'} {serials' = serials'} h calls t buffer'' serials'' line'' r =
         again t.next (fewer (place_of s buffer' serials') t.next buffer'' serials'' n h r.result) _ buffer'' serials'' line''
         (turned {t = t} calls (record { served = λ _. r; refused = λ ne. absurd (ne (program-stands calls)) }))
 
-    ends_more : (n : ℕ) → ((m : Next) → Below m n → Ends m) → (m : Next) → Below m (suc n) → Ends m
-    ends_more n again End h printed buffer' serials' line' calls = ends_now printed buffer' serials' line' calls
-    ends_more n again (On s) h printed buffer' serials' line' calls =
+    ends_more : (n : ℕ) → ((m : Option State) → Below m n → Ends m) → (m : Option State) → Below m (suc n) → Ends m
+    ends_more n again None h printed buffer' serials' line' calls = ends_now printed buffer' serials' line' calls
+    ends_more n again (Some s) h printed buffer' serials' line' calls =
         let a = along room calls in
         let here = place_of s buffer' serials' in
         let g = first-turn (stands-runs (on here) a.stands).1 in
         let r = laid (Goes input here) g.0 g.1 buffer' serials' line' a.room g.2 (goes_to g.1 a.stands g.2) in
         ends-after n again h calls r.0 r.1 r.2 r.3 r.4
 
-    ends-below : (n : ℕ) (m : Next) → Below m n → Ends m
-    ends-below zero End h = ends_now
-    ends-below zero (On s) h = absurd (omega arith)
+    ends-below : (n : ℕ) (m : Option State) → Below m n → Ends m
+    ends-below zero None h = ends_now
+    ends-below zero (Some s) h = absurd (omega arith)
     ends-below (suc n) m h = ends_more n (ends-below n) m h
 
-    ends-from : (m : Next) → Ends m
-    ends-from End = ends_now
-    ends-from (On s) = ends-below (suc s.left) (On s) (omega arith)
+    ends-from : (m : Option State) → Ends m
+    ends-from None = ends_now
+    ends-from (Some s) = ends-below (suc s.left) (Some s) (omega arith)
 
     -- There are calls that meet the contracts and lead to the end.
     pub program-ends : (output : List ℕ) × Ran input buffer serials line output

@@ -4,12 +4,12 @@ use mathlib.Core.List.{List, []}
 use Prim.Native.Nat.{ℕ}
 use Rattle.field.specs.Field.{Bytes}
 use Rattle.ledger.specs.Ledger.{Machine, Event}
+use Rattle.std.specs.Prelude.{Option, None, Some}
+use Rattle.season_run.specs.declared.State.{State}
 use Rattle.season_run.specs.Season.{Place, on, Goes, Opens, place_of, outcome_of, Room}
 use Rattle.season_run.specs.Season as season
 use Rattle.season_run.specs.Ledgers.{Reached, opened, tried}
 use Rattle.season_run.specs.Program.{Calls, began, turned}
-use Rattle.season_run.specs.declared.Next.{Next}
-use Rattle.season_run.specs.declared.Next.TheVariants.{End, On}
 use Rattle.season_run.proofs.Program.{program-stands}
 
 module _ (input : List ℕ) (bytes : Bytes input) where
@@ -21,21 +21,21 @@ module _ (input : List ℕ) (bytes : Bytes input) where
   goes-reached r (season.tried more f line h' z i t) = (_, _, tried f r i (season.tried more f line h' z i t))
 
   -- where a call says that the run goes on, it has got to that place, by some list of events
-  abbrev pub ReachedAt : Next → List ℕ → List ℕ → Type 0
-  ReachedAt End buffer serials = Unit {0}
-  ReachedAt (On s) buffer serials = (events : List Event) × (m : Machine) × Reached input events (place_of s buffer serials) m
+  abbrev pub ReachedAt : Option State → List ℕ → List ℕ → Type 0
+  ReachedAt None buffer serials = Unit {0}
+  ReachedAt (Some s) buffer serials = (events : List Event) × (m : Machine) × Reached input events (place_of s buffer serials) m
 
-  by-opens : (n : Next) (buffer serials : List ℕ) {line : List ℕ} → Opens input line (outcome_of n buffer serials) → ReachedAt n buffer serials
-  by-opens End buffer serials o = tt
-  by-opens (On s) buffer serials o = let r = opens-reached o in ([], r.0, r.1)
+  by-opens : (n : Option State) (buffer serials : List ℕ) {line : List ℕ} → Opens input line (outcome_of n buffer serials) → ReachedAt n buffer serials
+  by-opens None buffer serials o = tt
+  by-opens (Some s) buffer serials o = let r = opens-reached o in ([], r.0, r.1)
 
-  by-goes : (n : Next) (buffer serials : List ℕ) {line : List ℕ} {here : Place} {events : List Event} {m : Machine} → Reached input events here m
+  by-goes : (n : Option State) (buffer serials : List ℕ) {line : List ℕ} {here : Place} {events : List Event} {m : Machine} → Reached input events here m
       → Goes input here line (outcome_of n buffer serials) → ReachedAt n buffer serials
-  by-goes End buffer serials r g = tt
-  by-goes (On s) buffer serials r g = goes-reached r g
+  by-goes None buffer serials r g = tt
+  by-goes (Some s) buffer serials r g = goes-reached r g
 
   module _ {buffer serials line : List ℕ} (room : Room buffer serials line) where
-    pub program-reached : {printed : List ℕ} {n : Next} {buffer' serials' line' : List ℕ} → Calls input buffer serials line printed n buffer' serials' line'
+    pub program-reached : {printed : List ℕ} {n : Option State} {buffer' serials' line' : List ℕ} → Calls input buffer serials line printed n buffer' serials' line'
         → ReachedAt n buffer' serials'
     program-reached {n = n} {buffer' = buffer'} {serials' = serials'} (began post) = by-opens n buffer' serials' (post.served room).result
     program-reached {n = n} {buffer' = buffer'} {serials' = serials'} (turned calls post) =

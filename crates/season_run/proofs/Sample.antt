@@ -21,6 +21,7 @@ use Rattle.ledger.proofs.Computed.{encode-by, decode-by, update-by}
 use Rattle.season_file.specs.File.{number_at, choice_at, opening_of, item_at}
 use Rattle.season_lines.specs.Lines.{digits_before, decimal, hex_digit, hex, message_field, line_of}
 use Rattle.season_answers.specs.Answers.{answer_of}
+use Rattle.season_file.specs.declared.FileFault.TheVariants.{EndsEarly}
 use Rattle.season_file.specs.declared.Found.{Found}
 use Rattle.season_file.specs.declared.Event.TheVariants.{Update, Damage, Decode}
 use Rattle.season_run.specs.Season.{Season, season, opened, turn, tried, faulty, over, done}
@@ -148,7 +149,7 @@ boxes-sample =
     turn
     (tried 1 (box 0b0000 32 0 32) _ (stands (0x06 ∷ 0x0a ∷ 0x0c ∷ []) (0 ∷ 0 ∷ 0 ∷ [])) refl refl
     (record { message = []; prints = refl; line_is = refl; step = damaged refl })) (
-    turn (faulty 0 (record { kind = 3; number = 21 }) refl refl) done)))
+    turn (faulty 0 (record { kind = 3; fault = EndsEarly }) refl refl) done)))
 
 pub boxes-only : {other : List ℕ} → Season boxes other → other ≡ boxes-output
 boxes-only s = output-unique s boxes-sample

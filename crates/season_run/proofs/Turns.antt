@@ -1,14 +1,13 @@
 -- The turns as the specification has them, from what the functions below them did to the three buffers. Assumes nothing.
 use mathlib.Core.Path.{◌≡◌, refl, sym, ap, ap₂, ◌∙◌, subst, subst₂}
 use mathlib.Core.List.{List, [], ◌++◌}
-use mathlib.Core.Logic.{⊎_elim}
+use mathlib.Core.Logic.{◌⊎◌, inl, inr, ⊎_elim}
 use Prim.Native.Nat.{ℕ, ◌+◌, ◌-◌, ◌*◌, ◌≤◌, ◌<◌}
 use native.Mathlib.Numerals.{add-one}
 use native.Mathlib.Omega.{arith}
 use lib.ListN.{length, take, drop, length-replicate, take-append-drop}
 use lib.Seq.{length-take-le}
 use Rattle.base.specs.Gate.{first_no}
-use Rattle.base.proofs.Cases.{lt-or}
 use Rattle.gates.specs.Gates.{params_asked, encode_gate}
 use Rattle.gates.specs.Valid.{Valid}
 use Rattle.params.specs.declared.Params.{Params}
@@ -16,17 +15,14 @@ use Rattle.base.proofs.Questions.{first, stopped}
 use Rattle.gates.proofs.Valid.{valid-of, encode-accepted}
 use Rattle.code.specs.Calls.{EncodePost}
 use Rattle.ledger.specs.Ledger.{begun}
+use Rattle.std.specs.Prelude.{Option, None, Some, Ok, unwrap_or}
 use Rattle.season_file.specs.File.{bytes_of, opening_of, item_at, kind_of}
 use Rattle.season_lines.specs.Lines.{line_of, Wrote, LinePost}
 use Rattle.season_answers.specs.Answers.{answer_of}
 use Rattle.season_file.specs.declared.Found.{Found}
 use Rattle.season_file.specs.declared.Header.{Header}
-use Rattle.season_file.specs.declared.Item.TheVariants as item
-use Rattle.season_file.specs.declared.Opening.TheVariants as opening
 use Rattle.season_run.specs.Season.{Outcome, ended, on, Goes, tried, set_up_answer, Opens, refused, opened, place_of, outcome_of, Turned}
 use Rattle.season_run.specs.Turning.{Ended}
-use Rattle.season_run.specs.declared.Next.{Next}
-use Rattle.season_run.specs.declared.Next.TheVariants as next
 use Rattle.season_run.specs.declared.State.{State}
 use Rattle.season_run.specs.declared.Turn.{Turn}
 use Rattle.season_effects.specs.Events.{held_in}
@@ -40,7 +36,7 @@ pub ended-turn : (Result : List ℕ → Outcome → Type 0) (number kind answer 
 ended-turn Result number kind answer buffer serials line t line' e result =
     record {
       text = line_of number kind answer [];
-      result = subst (λ (n : Next). Result (line_of number kind answer []) (outcome_of n buffer serials)) (sym e.ends) result;
+      result = subst (λ (n : Option State). Result (line_of number kind answer []) (outcome_of n buffer serials)) (sym e.ends) result;
       wrote = e.wrote;
       length_is = refl;
       rest = refl;
@@ -49,7 +45,7 @@ ended-turn Result number kind answer buffer serials line t line' e result =
     }
 
 -- one that prints nothing
-pub silent-turn : (Result : List ℕ → Outcome → Type 0) (buffer serials line : List ℕ) (t : Turn) → t ≡ record { written = 0; next = next.End }
+pub silent-turn : (Result : List ℕ → Outcome → Type 0) (buffer serials line : List ℕ) (t : Turn) → t ≡ record { written = 0; next = None }
     → Result [] ended → Turned Result buffer serials line t buffer serials line
 silent-turn Result buffer serials line t e result =
     subst (λ (t : Turn). Turned Result buffer serials line t buffer serials line) (sym e)
@@ -73,16 +69,20 @@ invalid-gate a message slack codeword serials codeword' serials' bad =
     let ne : first_no (params_asked a) ≡ 0 → ⊥ = λ z. bad (valid-of a (sym z)) in
     sym (first _ (stopped (params_asked a) _ refl ne)) ∙ first _ (stopped (params_asked a) _ refl ne)
 
+-- the length of a record, 0 for parameters that no set-up accepts
+abbrev pub Size : Params → ℕ → Type 0
+Size a size = (Valid a × (size ≡ a.n * a.b)) ⊎ ((Valid a → ⊥) × (size ≡ 0))
+
+pub size_of : (a : Params) (length : Option ℕ) (size : ℕ) → RecordLength a length → size ≡ unwrap_or length 0 → Size a size
+size_of a None size r e = inr (r, e)
+size_of a (Some length) size r e = inl (r.0, e ∙ r.1)
+
 -- a record fits the buffer
-pub size_fits : (a : Params) (size : ℕ) → RecordLength a size → size ≤ 32768
+pub size_fits : (a : Params) (size : ℕ) → Size a size → size ≤ 32768
 size_fits a size = ⊎_elim (λ v. omega (arith, v.1, blocks-room a a.n v.0 (omega arith))) (λ n. omega (arith, n.1))
 
--- where parameters can be valid, the smaller of n and 32 is n
-pub all-nodes : (n nodes : ℕ) → nodes ≤ n → (nodes < n → 32 ≤ nodes) → n ≤ 32 → nodes ≡ n
-all-nodes n nodes le past few = ⊎_elim (λ (lt : nodes < n). absurd (omega (arith, past lt))) (λ (ge : n ≤ nodes). omega arith) (lt-or nodes n)
-
-module _ (input : List ℕ) (hd : Header) (whole : opening_of input ≡ opening.Whole hd) (buffer serials : List ℕ) (room : length buffer ≡ 32768)
-    (count : length serials ≡ 32) (size nodes : ℕ) (record-size : RecordLength hd.params size) (few : nodes ≤ 32)
+module _ (input : List ℕ) (hd : Header) (whole : opening_of input ≡ Ok hd) (buffer serials : List ℕ) (room : length buffer ≡ 32768)
+    (count : length serials ≡ 32) (size nodes : ℕ) (record-size : Size hd.params size) (few : nodes ≤ 32)
     (all : hd.params.n ≤ 32 → nodes ≡ hd.params.n) where
   -- the answer of the call is that of the set-up
   number_is : encode_gate hd.params (length (bytes_of input hd.message)) (length (bytes_of input hd.slack)) (length (take size buffer))
@@ -114,7 +114,7 @@ module _ (input : List ℕ) (hd : Header) (whole : opening_of input ≡ opening.
 
     pub set-up-accepted : answer ≡ 0 → (line : List ℕ) (written : ℕ) (line' : List ℕ) → LinePost 0 0 0 [] line written line' → 64 ≤ length line
         → Turned (Opens input) buffer serials line
-        (record { written = written; next = next.On (record { params = hd.params; number = 1; left = hd.events; at = hd.at }) })
+        (record { written = written; next = Some (record { params = hd.params; number = 1; left = hd.events; at = hd.at }) })
         (new ++ drop size buffer) (numbers ++ drop nodes serials) line'
     set-up-accepted z line written line' w h =
         let a = hd.params in
@@ -127,7 +127,7 @@ module _ (input : List ℕ) (hd : Header) (whole : opening_of input ≡ opening.
         let fits' : a.n ≤ length serials = omega arith in
         let e : new ++ drop size buffer ≡ new ++ drop (a.n * a.b) buffer = ap (λ (m : ℕ). new ++ drop m buffer) s in
         let e' : numbers ++ drop nodes serials ≡ numbers ++ drop a.n serials = ap (λ (m : ℕ). numbers ++ drop m serials) q in
-        let t : Turn = record { written = written; next = next.On (record { params = a; number = 1; left = hd.events; at = hd.at }) } in
+        let t : Turn = record { written = written; next = Some (record { params = a; number = 1; left = hd.events; at = hd.at }) } in
         subst₂ (λ (b k : List ℕ). Turned (Opens input) buffer serials line t b k line') (sym e) (sym e')
         (record {
           text = line_of 0 0 0 [];
@@ -153,14 +153,14 @@ module _ (input : List ℕ) (hd : Header) (whole : opening_of input ≡ opening.
 
 -- ---- an event
 
-module _ (input : List ℕ) (s : State) (found : Found) (whole : item_at s.params input s.at ≡ item.Whole found) (buffer serials line : List ℕ)
+module _ (input : List ℕ) (s : State) (found : Found) (whole : item_at s.params input s.at ≡ Ok found) (buffer serials line : List ℕ)
     (room : length line ≡ 65600) where
   pub event-turn : (params : Params) (message buffer' serials' : List ℕ) (kind answer written : ℕ) (line' : List ℕ) → 0 < s.left
       → Effected s.params input s.number found.event buffer serials params message buffer' serials' → length message ≤ 32768
       → kind ≡ kind_of found.event → answer ≡ answer_of s.params s.number found.event
       → LinePost s.number kind answer message line written line'
       → Turned (Goes input (place_of s buffer serials)) buffer serials line
-      (record { written = written; next = next.On (record { params = params; number = s.number + 1; left = s.left - 1; at = found.next }) }) buffer' serials'
+      (record { written = written; next = Some (record { params = params; number = s.number + 1; left = s.left - 1; at = found.next }) }) buffer' serials'
       line'
   event-turn params message buffer' serials' kind answer written line' more e short k q post =
       let text = line_of s.number (kind_of found.event) (answer_of s.params s.number found.event) message in

@@ -20,12 +20,12 @@ use Rattle.code.specs.Calls.{Updated}
 use Rattle.code.proofs.Sends.{send-whole}
 use Rattle.ledger.specs.Ledger.{Held, Machine, Step, updated, repaired, damaged, decoded, reconfigured}
 use Rattle.ledger.specs.Ledger as ledger
+use Rattle.std.specs.Prelude.{Ok}
 use Rattle.season_file.specs.File.{bytes_of, item_at}
 use Rattle.season_file.specs.declared.Event.{Event}
 use Rattle.season_file.specs.declared.Event.TheVariants.{Update, Repair, Damage, Decode, Reconfigure}
 use Rattle.season_file.specs.declared.Found.{Found}
 use Rattle.season_file.specs.declared.UpdateFields.{UpdateFields}
-use Rattle.season_file.specs.declared.Item.TheVariants as item
 use Rattle.season_answers.specs.Answers.{answer_of}
 use Rattle.season_answers.proofs.Numbers.{no-twenty-four}
 use Rattle.season_effects.specs.Events.{listed}
@@ -95,7 +95,7 @@ module _ (input : List ℕ) (bytes : Bytes input) where
 
     -- An accepted change adds its differences to the blocks of all of W, and these nodes take its number.
     pub season-change-whole : (f : UpdateFields) (after : ℕ)
-        → item_at here.stands.params input here.at ≡ item.Whole (record { event = Update f; next = after })
+        → item_at here.stands.params input here.at ≡ Ok (record { event = Update f; next = after })
         → answer_of here.stands.params here.number (Update f) ≡ 0 → {line : List ℕ} {here' : Place} → Goes input here line (on here')
         → Updated here.stands.params here.stands.codeword (bytes_of input f.change) f.to.0 (has f.to.0) here'.stands.codeword
         × Stamped here.stands.params.n (has f.to.0) here.number here.stands.serials here'.stands.serials

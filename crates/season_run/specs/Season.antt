@@ -1,12 +1,12 @@
 -- A run of the season program (document 01): what each turn prints and leaves, and the whole run's output for an input. An event does to the record what
 -- the one that stands for it (season_effects/specs/Events.antt) does in a list of the ledger machine (ledger/specs/Ledger.antt): the post-condition of its call.
 -- Assumes nothing.
-use Rattle.std.specs.Prelude.{◌≡◌, List, [], ◌++◌, ℕ, suc, ◌*◌, ◌≤◌, ◌<◌, length, take, drop, replicate}
+use Rattle.std.specs.Prelude.{◌≡◌, List, [], ◌++◌, ℕ, suc, ◌*◌, ◌≤◌, ◌<◌, length, take, drop, replicate, Option, None, Some, Ok, Err}
 use Rattle.gates.specs.Gates.{encode_gate}
 use Rattle.gates.specs.Valid.{Valid}
 use Rattle.code.specs.Calls.{EncodePost}
 use Rattle.ledger.specs.Ledger.{Held, begun, Step}
-use Rattle.season_file.specs.File.{bytes_of, opening_of, item_at, kind_of}
+use Rattle.season_file.specs.File.{bytes_of, opening_of, item_at, kind_of, number_of}
 use Rattle.season_lines.specs.Lines.{line_of, Wrote}
 use Rattle.season_answers.specs.Answers.{answer_of}
 use Rattle.season_effects.specs.Events.{listed, Prints, held_in}
@@ -14,11 +14,8 @@ use Rattle.season_file.specs.declared.Event.{Event}
 use Rattle.season_file.specs.declared.Header.{Header}
 use Rattle.season_file.specs.declared.Fault.{Fault}
 use Rattle.season_file.specs.declared.Found.{Found}
-use Rattle.season_file.specs.declared.Item.TheVariants as item
-use Rattle.season_file.specs.declared.Opening.TheVariants as opening
+use Rattle.season_file.specs.declared.FileFault.{FileFault}
 use Rattle.season_run.specs.declared.State.{State}
-use Rattle.season_run.specs.declared.Next.{Next}
-use Rattle.season_run.specs.declared.Next.TheVariants as next
 use Rattle.season_run.specs.declared.Turn.{Turn}
 
 -- ---- one event
@@ -47,10 +44,10 @@ pub data Outcome : Type 0 where
 pub data Goes (input : List ℕ) (here : Place) : List ℕ → Outcome → Type 0 where
   over : here.left ≡ 0 → length input ≤ here.at → Goes input here [] ended
   leftover : here.left ≡ 0 → here.at < length input → Goes input here (line_of here.number 0 23 []) ended
-  faulty : (more : ℕ) (f : Fault) → here.left ≡ suc more → item_at here.stands.params input here.at ≡ item.Faulty f
-      → Goes input here (line_of here.number f.kind f.number []) ended
+  faulty : (more : ℕ) (f : Fault) → here.left ≡ suc more → item_at here.stands.params input here.at ≡ Err f
+      → Goes input here (line_of here.number f.kind (number_of f.fault) []) ended
   tried : (more : ℕ) (f : Found) (line : List ℕ) (h' : Held) → here.left ≡ suc more
-      → item_at here.stands.params input here.at ≡ item.Whole f
+      → item_at here.stands.params input here.at ≡ Ok f
       → Tried input here.stands here.number f.event line h'
       → Goes input here line (on (record { stands = h'; number = suc here.number; left = more; at = f.next }))
 
@@ -60,10 +57,10 @@ set_up_answer input hd =
     encode_gate hd.params (length (bytes_of input hd.message)) (length (bytes_of input hd.slack)) (hd.params.n * hd.params.b) hd.params.n
 
 pub data Opens (input : List ℕ) : List ℕ → Outcome → Type 0 where
-  faulty : (fault : ℕ) → opening_of input ≡ opening.Faulty fault → Opens input (line_of 0 0 fault []) ended
-  refused : (hd : Header) → opening_of input ≡ opening.Whole hd → (set_up_answer input hd ≡ 0 → ⊥)
+  faulty : (fault : FileFault) → opening_of input ≡ Err fault → Opens input (line_of 0 0 (number_of fault) []) ended
+  refused : (hd : Header) → opening_of input ≡ Ok hd → (set_up_answer input hd ≡ 0 → ⊥)
       → Opens input (line_of 0 0 (set_up_answer input hd) []) ended
-  opened : (hd : Header) (codeword serials : List ℕ) → opening_of input ≡ opening.Whole hd
+  opened : (hd : Header) (codeword serials : List ℕ) → opening_of input ≡ Ok hd
       → EncodePost hd.params (bytes_of input hd.message) (bytes_of input hd.slack) (replicate (hd.params.n * hd.params.b) 0)
       (replicate hd.params.n 0) 0 codeword serials
       → Opens input (line_of 0 0 0 [])
@@ -95,18 +92,18 @@ FileOutput file output = Season (take 65535 file) output
 abbrev pub place_of : State → List ℕ → List ℕ → Place
 place_of s buffer serials = record { stands = held_in s.params buffer serials; number = s.number; left = s.left; at = s.at }
 
-abbrev pub outcome_of : Next → List ℕ → List ℕ → Outcome
-outcome_of next.End buffer serials = ended
-outcome_of (next.On s) buffer serials = on (place_of s buffer serials)
+abbrev pub outcome_of : Option State → List ℕ → List ℕ → Outcome
+outcome_of None buffer serials = ended
+outcome_of (Some s) buffer serials = on (place_of s buffer serials)
 
 -- where the record in force ends, and where the serials do
-abbrev pub record_end : Next → ℕ
-record_end next.End = 0
-record_end (next.On s) = s.params.n * s.params.b
+abbrev pub record_end : Option State → ℕ
+record_end None = 0
+record_end (Some s) = s.params.n * s.params.b
 
-abbrev pub serials_end : Next → ℕ
-serials_end next.End = 0
-serials_end (next.On s) = s.params.n
+abbrev pub serials_end : Option State → ℕ
+serials_end None = 0
+serials_end (Some s) = s.params.n
 
 -- room for the largest record, for the serials of as many nodes, and for the longest line
 pub record Room (buffer serials line : List ℕ) : Type 0 where
@@ -127,7 +124,7 @@ pub record Turned (Result : List ℕ → Outcome → Type 0) (buffer serials lin
 
 -- nothing is done with buffers of other lengths, or from a state with parameters that no set-up accepts or a number above 65,536
 pub record Idle (buffer serials line : List ℕ) (t : Turn) (buffer' serials' line' : List ℕ) : Type 0 where
-  pub ends : t ≡ record { written = 0; next = next.End }
+  pub ends : t ≡ record { written = 0; next = None }
   pub buffer_kept : buffer' ≡ buffer
   pub serials_kept : serials' ≡ serials
   pub line_kept : line' ≡ line

@@ -1,15 +1,13 @@
 // The set-up, which prints first.
-ghost use Rattle.std.specs.Prelude.{◌≡◌};
+ghost use Rattle.std.specs.Prelude.{◌≡◌, Ok};
 ghost use Rattle.season_file.specs.File.{opening_of};
-ghost use Rattle.season_file.specs.declared.Opening.TheVariants.{Whole};
 ghost use Rattle.season_run.specs.Season.{Opens, Room, Turned, BeginPost};
 
-use super::{Next, State, Turn, idle, last_line};
-use base::shorter;
+use super::{State, Turn, idle, last_line};
 use encoding::encode;
 use season_answers::record_length;
+use season_file::Header;
 use season_file::parsing::open;
-use season_file::{Header, Opening};
 use season_lines::write_line;
 
 // Tries the set-up: its line, the record at the front of the codeword's buffer, of 32,768 bytes, and the serials at the front of theirs, of 32 numbers. The line's
@@ -35,8 +33,8 @@ fn begin_within(input: &[u8], codeword: &mut [u8], serials: &mut [u32], line: &m
     ensures { Turned (Opens input.now) codeword.old serials.old line.old result codeword.new serials.new line.new }
 {
     match open(input) {
-        Opening::Faulty(fault) => last_line(input, line, 0, 0, fault),
-        Opening::Whole(header) => set_up(input, header, codeword, serials, line),
+        Err(fault) => last_line(input, line, 0, 0, u32::from(fault)),
+        Ok(header) => set_up(input, header, codeword, serials, line),
     }
 }
 
@@ -48,13 +46,13 @@ fn set_up(
     serials: &mut [u32],
     line: &mut [u8],
 ) -> Turn
-    requires input_value { opening_of input.now ≡ Whole header }
+    requires input_value { opening_of input.now ≡ Ok header }
     requires room { Room codeword.old serials.old line.old }
     ensures { Turned (Opens input.now) codeword.old serials.old line.old result codeword.new serials.new line.new }
 {
     let params = header.params;
-    let length = record_length(params);
-    let nodes = shorter(params.n, 32);
+    let length = record_length(params).unwrap_or(0);
+    let nodes = params.n.min(32);
     let message = header.message.at;
     let message_end = message + header.message.count;
     let slack = header.slack.at;
@@ -72,7 +70,7 @@ fn set_up(
     let written = write_line(line, 0, 0, 0, &input[..0]);
     Turn {
         written,
-        next: Next::On(State {
+        next: Some(State {
             params,
             number: 1,
             left: header.events,

@@ -5,9 +5,8 @@
 pub mod beginning;
 pub mod turning;
 
-ghost use Rattle.std.specs.Prelude.{◌≡◌, ◌≤◌, length};
+ghost use Rattle.std.specs.Prelude.{◌≡◌, ◌≤◌, length, None};
 ghost use Rattle.season_run.specs.Turning.{Ended};
-ghost use Rattle.season_run.specs.declared.Next.TheVariants.{End};
 
 use params::Params;
 use season_lines::write_line;
@@ -25,27 +24,20 @@ pub struct State {
     pub at: usize,
 }
 
-// Whether the run goes on.
-#[derive(Clone, Copy)]
-pub enum Next {
-    End,
-    On(State),
-}
-
-// What a turn gives back: how many bytes of the line it wrote, and how the run goes on.
+// What a turn gives back: how many bytes of the line it wrote, and from where the run goes on, if it does.
 #[derive(Clone, Copy)]
 pub struct Turn {
     pub written: usize,
-    pub next: Next,
+    pub next: Option<State>,
 }
 
 // Nothing is printed, and the run ends.
 fn idle() -> Turn
-    ensures { result ≡ record { written = 0; next = End } }
+    ensures { result ≡ record { written = 0; next = None } }
 {
     Turn {
         written: 0,
-        next: Next::End,
+        next: None,
     }
 }
 
@@ -57,6 +49,6 @@ fn last_line(input: &[u8], line: &mut [u8], number: usize, kind: u8, answer: u32
     let written = write_line(line, number, kind, answer, &input[..0]);
     Turn {
         written,
-        next: Next::End,
+        next: None,
     }
 }

@@ -1,14 +1,13 @@
 // One event after the set-up.
-ghost use Rattle.std.specs.Prelude.{◌≡◌, List, ℕ, ◌≤◌, ◌<◌, length};
+ghost use Rattle.std.specs.Prelude.{◌≡◌, List, ℕ, ◌≤◌, ◌<◌, length, Ok};
 ghost use Rattle.season_file.specs.File.{item_at};
-ghost use Rattle.season_file.specs.declared.Item.TheVariants.{Whole};
 ghost use Rattle.season_run.specs.Season.{Goes, place_of, Room, Turned, Standing, TurnPost};
 
-use super::{Next, State, Turn, idle, last_line};
-use season_answers::{kind_of, record_length};
+use super::{State, Turn, idle, last_line};
+use season_answers::record_length;
 use season_effects::take_effect;
 use season_file::parsing::parse;
-use season_file::{Found, Item};
+use season_file::{FileFault, Found};
 use season_lines::write_line;
 
 // Tries the next event: its line, and the record and the serials as it leaves them, in buffers of the lengths that `begin` asks. After the last event the run ends.
@@ -30,7 +29,7 @@ pub fn turn(
     if line.len() != 65600 {
         return idle();
     }
-    if record_length(s.params) == 0 {
+    if record_length(s.params).is_none() {
         return idle();
     }
     if 65536 < s.number {
@@ -55,8 +54,8 @@ fn turn_within(
         return finish(input, s, line);
     }
     match parse(s.params, input, s.at) {
-        Item::Faulty(f) => last_line(input, line, s.number, f.kind, f.number),
-        Item::Whole(f) => try_event(input, s, f, codeword, serials, line),
+        Err(f) => last_line(input, line, s.number, f.kind, u32::from(f.fault)),
+        Ok(f) => try_event(input, s, f, codeword, serials, line),
     }
 }
 
@@ -69,7 +68,7 @@ fn finish(input: &[u8], s: State, line: &mut [u8]) -> Turn
     if input.len() <= s.at {
         return idle();
     }
-    last_line(input, line, s.number, 0, 23)
+    last_line(input, line, s.number, 0, u32::from(FileFault::LeftOver))
 }
 
 // The event is whole: makes room for a message or a new record, and lends it.
@@ -84,7 +83,7 @@ fn try_event(
     requires room { Room codeword.old serials.old line.old }
     requires standing { Standing s }
     requires left_nonzero { 0 < s.left }
-    requires at_value { item_at s.params input.now s.at ≡ Whole found }
+    requires at_value { item_at s.params input.now s.at ≡ Ok found }
     ensures { Turned (Goes input.now (place_of s codeword.old serials.old)) codeword.old serials.old line.old result codeword.new serials.new line.new }
 {
     let mut room = [0u8; 32768];
@@ -104,7 +103,7 @@ fn try_within(
     requires room { Room codeword.old serials.old line.old }
     requires standing { Standing s }
     requires left_nonzero { 0 < s.left }
-    requires at_value { item_at s.params input.now s.at ≡ Whole found }
+    requires at_value { item_at s.params input.now s.at ≡ Ok found }
     requires room_len { length room.old ≡ 32768 }
     ensures { Turned (Goes input.now (place_of s codeword.old serials.old)) codeword.old serials.old line.old result codeword.new serials.new line.new }
 {
@@ -116,13 +115,13 @@ fn try_within(
     let written = write_line(
         line,
         s.number,
-        kind_of(event),
+        u8::from(event.kind()),
         effect.answer,
         &room[..printed],
     );
     Turn {
         written,
-        next: Next::On(State {
+        next: Some(State {
             params,
             number: s.number + 1,
             left: s.left - 1,

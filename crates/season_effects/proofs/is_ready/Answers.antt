@@ -1,6 +1,6 @@
 -- Each test decides; of the event its blocks do. Assumes nothing.
-use mathlib.Core.Path.{◌≡◌, subst}
-use mathlib.Core.Bool.{Bool}
+use mathlib.Core.Path.{◌≡◌, ap, ◌∙◌, subst}
+use mathlib.Core.Bool.{Bool, not}
 use native.Mathlib.Omega.{arith}
 use Rattle.base.specs.Decided.{Decided}
 use Rattle.base.proofs.Decisions.{decided-true}
@@ -12,12 +12,12 @@ use Rattle.season_effects.specs.Effects.{InFull, Accepted, Ready}
 use Rattle.season_effects.proofs.Applied.{new-valid}
 use Rattle.season_effects.proofs.Readiness.{not-ready, ready_by, box-fits, box-decided}
 use Rattle.season_effects.proofs.is_ready.Goals as goal
-use Rattle.season_effects.proofs.is_ready.Goals.{Else-record_length-eq0}
+use Rattle.season_effects.proofs.is_ready.Goals.{Else-is_none}
 
 -- all tests before the event are passed
-module _ (c : Else-record_length-eq0) where
+module _ (c : Else-is_none) where
   valid : Valid c.args.a
-  valid = some-record _ _ c.record_length.ensures c.if-record_length-eq0.false
+  valid = some-record _ _ c.record_length.ensures (c.is_none.ensures ∙ ap not c.if-is_none.false)
 
   -- the event's blocks decide
   decided : (t : Bool) (e : Event) → c.args.e ≡ e → Decided (InFull c.args.a c.args.input e) t
@@ -30,15 +30,15 @@ returns-then-codeword-ne32768 c = not-ready _ _ _ _ _ _ (λ h. c.if-codeword-ne3
 pub returns-then-serials-ne32 : goal.returns-then-serials-ne32
 returns-then-serials-ne32 c = not-ready _ _ _ _ _ _ (λ h. c.if-serials-ne32.true h.serials_room)
 
-pub returns-then-record_length-eq0 : goal.returns-then-record_length-eq0
-returns-then-record_length-eq0 c = not-ready _ _ _ _ _ _ (λ h. no_record _ _ c.record_length.ensures c.if-record_length-eq0.true h.valid)
+pub returns-then-is_none : goal.returns-then-is_none
+returns-then-is_none c = not-ready _ _ _ _ _ _ (λ h. no_record _ _ c.record_length.ensures (c.is_none.ensures ∙ ap not c.if-is_none.true) h.valid)
 
 pub overflow_mul-a : goal.overflow_mul-a
-overflow_mul-a c = k-fits (valid (goal.at.overflow_mul-a c).Else-record_length-eq0)
+overflow_mul-a c = k-fits (valid (goal.at.overflow_mul-a c).Else-is_none)
 
 pub overflow_mul-size : goal.overflow_mul-size
 overflow_mul-size c =
-    let h = (goal.at.overflow_mul-size c).Else-record_length-eq0 in
+    let h = (goal.at.overflow_mul-size c).Else-is_none in
     let is = c.in-Damage.is in
     box-fits h.args.a _ (valid h) (subst (Accepted h.args.a) is h.requires) _ c.size.ensures
 
@@ -48,19 +48,19 @@ overflow_mul-f c =
     k-fits (new-valid s.args.a _ (subst (Accepted s.args.a) c.in-Reconfigure.is s.requires))
 
 pub returns-in-Update : goal.returns-in-Update
-returns-in-Update c = decided (goal.at.returns-in-Update c).Else-record_length-eq0 _ _ c.in-Update.is c.is_stretch.ensures
+returns-in-Update c = decided (goal.at.returns-in-Update c).Else-is_none _ _ c.in-Update.is c.is_stretch.ensures
 
 pub returns-in-Repair : goal.returns-in-Repair
-returns-in-Repair c = decided (goal.at.returns-in-Repair c).Else-record_length-eq0 _ _ c.in-Repair.is (decided-true _ tt)
+returns-in-Repair c = decided (goal.at.returns-in-Repair c).Else-is_none _ _ c.in-Repair.is (decided-true _ tt)
 
 pub returns-in-Damage : goal.returns-in-Damage
 returns-in-Damage c =
-    let h = (goal.at.returns-in-Damage c).Else-record_length-eq0 in
+    let h = (goal.at.returns-in-Damage c).Else-is_none in
     decided h _ _ c.in-Damage.is
     (box-decided h.args.a h.args.input _ _ _ c.size.ensures c.is_stretch-in-Damage.ensures)
 
 pub returns-in-Decode : goal.returns-in-Decode
-returns-in-Decode c = decided (goal.at.returns-in-Decode c).Else-record_length-eq0 _ _ c.in-Decode.is (decided-true _ tt)
+returns-in-Decode c = decided (goal.at.returns-in-Decode c).Else-is_none _ _ c.in-Decode.is (decided-true _ tt)
 
 pub returns-in-Reconfigure : goal.returns-in-Reconfigure
-returns-in-Reconfigure c = decided (goal.at.returns-in-Reconfigure c).Else-record_length-eq0 _ _ c.in-Reconfigure.is c.is_stretch-in-Reconfigure.ensures
+returns-in-Reconfigure c = decided (goal.at.returns-in-Reconfigure c).Else-is_none _ _ c.in-Reconfigure.is c.is_stretch-in-Reconfigure.ensures

@@ -1,5 +1,5 @@
 -- The event is ready for its effect, and the line has the room for any message. Assumes nothing.
-use mathlib.Core.Path.{sym}
+use mathlib.Core.Path.{sym, ◌∙◌}
 use native.Mathlib.Omega.{arith}
 use lib.ListN.{length}
 use lib.Seq.{length-take-le}
@@ -43,4 +43,4 @@ returns c =
     event-turn s.args.input.now s.args.s s.args.found s.requires.at_value s.args.codeword.now s.args.serials.now s.args.line.now
     s.requires.room.line_room e.result.params _ _ _ _ _ _ _ s.requires.left_nonzero taken.effected
     (omega (arith, taken.printed_fits, length-take-le e.result.printed e.new.room (omega (arith, taken.printed_fits, e.auto.room, s.requires.room_len))))
-    c.kind_of.ensures e.ensures.answer_is c.write_line-written.ensures
+    (c.from.ensures ∙ c.kind.ensures) e.ensures.answer_is c.write_line-written.ensures

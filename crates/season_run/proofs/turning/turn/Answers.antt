@@ -1,5 +1,6 @@
 -- Each test decides whether a turn can start. Assumes nothing.
-use mathlib.Core.Path.{refl}
+use mathlib.Core.Path.{refl, ap, ◌∙◌}
+use mathlib.Core.Bool.{not}
 use native.Mathlib.Omega.{arith}
 use Rattle.season_answers.proofs.Records.{no_record, some-record}
 use Rattle.season_run.proofs.turning.turn.Goals as goal
@@ -25,11 +26,11 @@ returns-then-line-ne65600 c =
       refused = λ _. record { ends = c.idle-then-line-ne65600.ensures; buffer_kept = refl; serials_kept = refl; line_kept = refl };
     }
 
-pub returns-then-record_length-eq0 : goal.returns-then-record_length-eq0
-returns-then-record_length-eq0 c =
+pub returns-then-is_none : goal.returns-then-is_none
+returns-then-is_none c =
     record {
-      served = λ h. absurd (no_record _ _ c.record_length.ensures c.if-record_length-eq0.true h.1.valid);
-      refused = λ _. record { ends = c.idle-then-record_length-eq0.ensures; buffer_kept = refl; serials_kept = refl; line_kept = refl };
+      served = λ h. absurd (no_record _ _ c.record_length.ensures (c.is_none.ensures ∙ ap not c.if-is_none.true) h.1.valid);
+      refused = λ _. record { ends = c.idle-then-is_none.ensures; buffer_kept = refl; serials_kept = refl; line_kept = refl };
     }
 
 pub returns-then-s-gt65536 : goal.returns-then-s-gt65536
@@ -43,7 +44,7 @@ pub turn_within-requires : goal.turn_within-requires
 turn_within-requires c = record {
   room = record { record_room = c.if-codeword-ne32768.false; serials_room = c.if-serials-ne32.false; line_room = c.if-line-ne65600.false };
   standing = record {
-    valid = some-record _ _ c.record_length.ensures c.if-record_length-eq0.false;
+    valid = some-record _ _ c.record_length.ensures (c.is_none.ensures ∙ ap not c.if-is_none.false);
     countable = omega (arith, c.if-s-gt65536.false);
   };
 }
@@ -54,6 +55,6 @@ returns c =
       served = λ _. c.turn_within.ensures;
       refused = λ ne. absurd (ne (
         record { record_room = c.if-codeword-ne32768.false; serials_room = c.if-serials-ne32.false; line_room = c.if-line-ne65600.false },
-        record { valid = some-record _ _ c.record_length.ensures c.if-record_length-eq0.false; countable = omega (arith, c.if-s-gt65536.false) },
+        record { valid = some-record _ _ c.record_length.ensures (c.is_none.ensures ∙ ap not c.if-is_none.false); countable = omega (arith, c.if-s-gt65536.false) },
       ));
     }
