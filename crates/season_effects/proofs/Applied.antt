@@ -15,6 +15,10 @@ use Rattle.params.specs.Nodes.{has, size, count}
 use Rattle.params.specs.Params.{reshaped}
 use Rattle.params.proofs.Sets.{has-none, within_has}
 use Rattle.serials.specs.Serials.{Stamped}
+use Rattle.std.specs.Prelude.{Err}
+use Rattle.gates.specs.Refusals.{number}
+use Rattle.gates.specs.declared.Refusal.{Refusal}
+use Rattle.gates.proofs.Refusals.{number-not-0}
 use Rattle.gates.proofs.Valid.{damage-accepted, reconfigure-accepted}
 use Rattle.code.specs.Calls.{UpdatePost, RepairPost, DecodePost, ReconfigurePost, Reconfigured}
 use Rattle.blocks.specs.Bytes.{over}
@@ -72,14 +76,14 @@ front-full a buffer serials v room count =
 -- nothing is laid in it
 quiet : (q : ℕ) (a : Params) (input : List ℕ) (serial : ℕ) (e : Event) (buffer serials room buffer' serials' : List ℕ)
     → [] ≡ laid q e [] (take (a.n * a.b) buffer') → Effected a input serial e buffer serials a [] buffer' serials'
-    → Taken a input serial e buffer serials room (record { params = a; answer = q; printed = 0 }) buffer' serials' room
+    → Taken a input serial e buffer serials room q (record { params = a; printed = 0 }) buffer' serials' room
 quiet q a input serial e buffer serials room buffer' serials' none x =
     record { effected = x; printed_fits = omega arith; work = []; work_is = none; room_is = refl }
 
 -- .. by an accepted event
 abbrev Quiet : Params → List ℕ → ℕ → Event → List ℕ → List ℕ → List ℕ → List ℕ → List ℕ → Type 0
 Quiet a input serial e buffer serials room buffer' serials' =
-    Taken a input serial e buffer serials room (record { params = a; answer = 0; printed = 0 }) buffer' serials' room
+    Taken a input serial e buffer serials room 0 (record { params = a; printed = 0 }) buffer' serials' room
 
 -- ---- change and rebuild
 
@@ -184,7 +188,7 @@ pub decode-applied : (a : Params) (f : DecodeFields) (buffer room out : List ℕ
     → Accepted a (Decode f) → length out ≡ a.k * a.b
     → DecodePost a (take (a.n * a.b) buffer) f.from.0 (take (a.k * a.b) room) answer out → (input serials : List ℕ) (serial : ℕ)
     → length serials ≡ 32
-    → Taken a input serial (Decode f) buffer serials room (record { params = a; answer = 0; printed = a.k * a.b }) buffer serials
+    → Taken a input serial (Decode f) buffer serials room 0 (record { params = a; printed = a.k * a.b }) buffer serials
     (out ++ drop (a.k * a.b) room)
 unfolding answer_of
 decode-applied a f buffer room out answer v hb hr (_, z) full post input serials serial hs =
@@ -256,7 +260,7 @@ module _ (a : Params) (input : List ℕ) (f : ReconfigureFields) (z : Accepted a
   pub reconfigure-applied : (buffer' : List ℕ) → buffer' ≡ over buffer (take (f.shape.n * a.b) (new ++ drop (f.shape.n * a.b) room))
       → (serials' : List ℕ)
       → Stamped (length (take f.shape.n serials)) (has 0) 0 (take f.shape.n (numbers ++ drop f.shape.n fresh)) serials' → (serial : ℕ)
-      → Taken a input serial (Reconfigure f) buffer serials room (record { params = reshaped a f.shape; answer = 0; printed = 0 }) buffer'
+      → Taken a input serial (Reconfigure f) buffer serials room 0 (record { params = reshaped a f.shape; printed = 0 }) buffer'
       (serials' ++ drop f.shape.n serials) (new ++ drop (f.shape.n * a.b) room)
   reconfigure-applied buffer' e serials' handed serial =
       let fits : f.shape.n * a.b ≤ length buffer = omega (arith, new-fits, h.record_room) in
@@ -303,16 +307,16 @@ none-laid : (q : ℕ) (e : Event) (message codeword : List ℕ) → (q ≡ 0 →
 none-laid zero e message codeword ne = absurd (ne refl)
 none-laid (suc q) e message codeword ne = refl
 
-pub refused-applied : (q : ℕ) (a : Params) (input : List ℕ) (serial : ℕ) (e : Event) (buffer serials room : List ℕ) → q ≡ answer_of a serial e
-    → (q ≡ 0 → ⊥) → EffectPost a input serial e buffer serials room (record { params = a; answer = q; printed = 0 }) buffer serials room
-refused-applied q a input serial e buffer serials room is ne =
+pub refused-applied : (q : Refusal) (a : Params) (input : List ℕ) (serial : ℕ) (e : Event) (buffer serials room : List ℕ) → number q ≡ answer_of a serial e
+    → EffectPost a input serial e buffer serials room (Err q) buffer serials room
+refused-applied q a input serial e buffer serials room is =
     record {
       answer_is = is;
       served = λ h.
-          let no : answer_of a serial e ≡ 0 → ⊥ = λ z. ne (is ∙ z) in
+          let no : answer_of a serial e ≡ 0 → ⊥ = λ z. number-not-0 q (is ∙ z) in
           let held = held_in a buffer serials in
           let g = answer-is-gate held input serial e (front-full a buffer serials h.valid h.record_room h.serials_room) h.found in
-          quiet q a input serial e buffer serials room buffer serials (none-laid q e _ _ ne)
+          quiet (number q) a input serial e buffer serials room buffer serials (none-laid (number q) e _ _ (number-not-0 q))
           (unmoved a input serial e buffer serials [] (refused-prints held serial e no) (refused-step held input serial e (answer_of a serial e) g no));
       refused = λ _. record { params_kept = refl; nothing_printed = refl; buffer_kept = refl; serials_kept = refl; room_kept = refl };
     }

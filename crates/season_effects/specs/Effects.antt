@@ -1,6 +1,8 @@
 -- What the functions that take an event's effect promise. Assumes nothing.
-use Rattle.std.specs.Prelude.{◌≡◌, List, [], ◌++◌, ℕ, zero, suc, ◌+◌, ◌*◌, ◌≤◌, length, take, drop}
+use Rattle.std.specs.Prelude.{◌≡◌, List, [], ◌++◌, ℕ, zero, suc, ◌+◌, ◌*◌, ◌≤◌, length, take, drop, Result, Ok, Err}
 use Rattle.gates.specs.Valid.{Valid}
+use Rattle.gates.specs.Refusals.{answer}
+use Rattle.gates.specs.declared.Refusal.{Refusal}
 use Rattle.params.specs.Nodes.{size}
 use Rattle.params.specs.declared.Params.{Params}
 use Rattle.ledger.specs.Ledger.{Step}
@@ -60,13 +62,13 @@ laid zero (Decode _) message codeword = message
 laid zero (Reconfigure _) message codeword = codeword
 laid (suc _) e message codeword = []
 
--- the message is the room's front, of as many bytes as the effect says
-pub record Taken (a : Params) (input : List ℕ) (serial : ℕ) (e : Event) (buffer serials room : List ℕ) (r : Effect)
+-- with the answer q: the message is the room's front, of as many bytes as the effect says
+pub record Taken (a : Params) (input : List ℕ) (serial : ℕ) (e : Event) (buffer serials room : List ℕ) (q : ℕ) (r : Effect)
     (buffer' serials' room' : List ℕ) : Type 0 where
   pub effected : Effected a input serial e buffer serials r.params (take r.printed room') buffer' serials'
   pub printed_fits : r.printed ≤ 32768
   pub work : List ℕ
-  pub work_is : work ≡ laid r.answer e (take r.printed room') (held_in r.params buffer' serials').codeword
+  pub work_is : work ≡ laid q e (take r.printed room') (held_in r.params buffer' serials').codeword
   pub room_is : room' ≡ work ++ drop (length work) room
 
 -- nothing is done: all is as it was
@@ -77,11 +79,16 @@ pub record Still (a : Params) (buffer serials room : List ℕ) (r : Effect) (buf
   pub serials_kept : serials' ≡ serials
   pub room_kept : room' ≡ room
 
+-- what is left, of a refused event too: nothing is printed, and the parameters stay in force
+abbrev pub effect_of : Params → Result Effect Refusal → Effect
+effect_of a (Ok r) = r
+effect_of a (Err _) = record { params = a; printed = 0 }
+
 -- Where the event is ready its effect is taken, which for a refused one is none; otherwise nothing is done. The answer is told in either case.
-pub record EffectPost (a : Params) (input : List ℕ) (serial : ℕ) (e : Event) (buffer serials room : List ℕ) (r : Effect)
+pub record EffectPost (a : Params) (input : List ℕ) (serial : ℕ) (e : Event) (buffer serials room : List ℕ) (r : Result Effect Refusal)
     (buffer' serials' room' : List ℕ) : Type 0 where
-  pub answer_is : r.answer ≡ answer_of a serial e
+  pub answer_is : answer r ≡ answer_of a serial e
   pub served
-      : Ready a (length input) e (length buffer) (length serials) (length room) → Taken a input serial e buffer serials room r buffer' serials' room'
+      : Ready a (length input) e (length buffer) (length serials) (length room) → Taken a input serial e buffer serials room (answer r) (effect_of a r) buffer' serials' room'
   pub refused
-      : (Ready a (length input) e (length buffer) (length serials) (length room) → ⊥) → Still a buffer serials room r buffer' serials' room'
+      : (Ready a (length input) e (length buffer) (length serials) (length room) → ⊥) → Still a buffer serials room (effect_of a r) buffer' serials' room'

@@ -30,7 +30,7 @@ pub(crate) fn apply(
 ) -> Effect
     requires ready { Ready a (length input.now) e (length codeword.old) (length serials.old) (length room.old) }
     requires e_value { answer_of a serial e ≡ 0 }
-    ensures { (result.answer ≡ 0) × Taken a input.now serial e codeword.old serials.old room.old result codeword.new serials.new room.new }
+    ensures { Taken a input.now serial e codeword.old serials.old room.old 0 result codeword.new serials.new room.new }
 {
     match e {
         Event::Update(f) => apply_update(a, input, serial, f, codeword, serials),
@@ -53,7 +53,7 @@ fn apply_update(
     requires valid { Valid a }
     requires codeword_len { (length codeword.old ≡ 32768) × (length serials.old ≡ 32) }
     requires stretch { Stretch (length input.now) f.change (a.k * a.b) }
-    ensures { (result.answer ≡ 0) × ((room : List ℕ) → Taken a input.now serial (Update f) codeword.old serials.old room result codeword.new serials.new room) }
+    ensures { (room : List ℕ) → Taken a input.now serial (Update f) codeword.old serials.old room 0 result codeword.new serials.new room }
 {
     let nodes = a.n;
     let length = nodes * a.b;
@@ -70,7 +70,6 @@ fn apply_update(
     );
     Effect {
         params: a,
-        answer: 0,
         printed: 0,
     }
 }
@@ -78,7 +77,7 @@ fn apply_update(
 fn apply_repair(a: Params, f: RepairFields, codeword: &mut [u8], serials: &mut [u32]) -> Effect
     requires valid { Valid a }
     requires codeword_len { (length codeword.old ≡ 32768) × (length serials.old ≡ 32) }
-    ensures { (result.answer ≡ 0) × ((input room : List ℕ) (serial : ℕ) → Taken a input serial (Repair f) codeword.old serials.old room result codeword.new serials.new room) }
+    ensures { (input room : List ℕ) (serial : ℕ) → Taken a input serial (Repair f) codeword.old serials.old room 0 result codeword.new serials.new room }
 {
     let nodes = a.n;
     let length = nodes * a.b;
@@ -91,7 +90,6 @@ fn apply_repair(a: Params, f: RepairFields, codeword: &mut [u8], serials: &mut [
     );
     Effect {
         params: a,
-        answer: 0,
         printed: 0,
     }
 }
@@ -102,7 +100,7 @@ fn apply_damage(a: Params, input: &[u8], f: DamageFields, codeword: &mut [u8]) -
     requires codeword_len { length codeword.old ≡ 32768 }
     requires stretch { Stretch (length input.now) f.blocks (size f.nodes.0 * a.b) }
     requires accepted { Accepted a (Damage f) }
-    ensures { (result.answer ≡ 0) × ((room serials : List ℕ) (serial : ℕ) → Taken a input.now serial (Damage f) codeword.old serials room result codeword.new serials room) }
+    ensures { (room serials : List ℕ) (serial : ℕ) → Taken a input.now serial (Damage f) codeword.old serials room 0 result codeword.new serials room }
 {
     let length = a.n * a.b;
     let at = f.blocks.at;
@@ -110,7 +108,6 @@ fn apply_damage(a: Params, input: &[u8], f: DamageFields, codeword: &mut [u8]) -
     put_blocks(&mut codeword[..length], f.nodes, &input[at..end], a.b);
     Effect {
         params: a,
-        answer: 0,
         printed: 0,
     }
 }
@@ -120,14 +117,13 @@ fn apply_decode(a: Params, f: DecodeFields, codeword: &[u8], room: &mut [u8]) ->
     requires valid { Valid a }
     requires codeword_len { (length codeword.now ≡ 32768) × (length room.old ≡ 32768) }
     requires accepted { Accepted a (Decode f) }
-    ensures { (result.answer ≡ 0) × ((input serials : List ℕ) (serial : ℕ) → length serials ≡ 32 → Taken a input serial (Decode f) codeword.now serials room.old result codeword.now serials room.new) }
+    ensures { (input serials : List ℕ) (serial : ℕ) → length serials ≡ 32 → Taken a input serial (Decode f) codeword.now serials room.old 0 result codeword.now serials room.new }
 {
     let length = a.n * a.b;
     let count = a.k * a.b;
     let _ = decode(a, &codeword[..length], f.from, &mut room[..count]);
     Effect {
         params: a,
-        answer: 0,
         printed: count,
     }
 }
@@ -143,7 +139,7 @@ fn apply_reconfigure(
 ) -> Effect
     requires ready { Ready a (length input.now) (Reconfigure f) (length codeword.old) (length serials.old) (length room.old) }
     requires accepted { Accepted a (Reconfigure f) }
-    ensures { (result.answer ≡ 0) × ((serial : ℕ) → Taken a input.now serial (Reconfigure f) codeword.old serials.old room.old result codeword.new serials.new room.new) }
+    ensures { (serial : ℕ) → Taken a input.now serial (Reconfigure f) codeword.old serials.old room.old 0 result codeword.new serials.new room.new }
 {
     let mut numbers = [0u32; 32];
     reconfigure_within(a, input, f, codeword, serials, room, &mut numbers)
@@ -162,7 +158,7 @@ fn reconfigure_within(
     requires ready { Ready a (length input.now) (Reconfigure f) (length codeword.old) (length serials.old) (length room.old) }
     requires accepted { Accepted a (Reconfigure f) }
     requires numbers_len { length numbers.old ≡ 32 }
-    ensures { (result.answer ≡ 0) × ((serial : ℕ) → Taken a input.now serial (Reconfigure f) codeword.old serials.old room.old result codeword.new serials.new room.new) }
+    ensures { (serial : ℕ) → Taken a input.now serial (Reconfigure f) codeword.old serials.old room.old 0 result codeword.new serials.new room.new }
 {
     let shape = f.shape;
     let nodes = a.n;
@@ -193,7 +189,6 @@ fn reconfigure_within(
             n: shape.n,
             b: a.b,
         },
-        answer: 0,
         printed: 0,
     }
 }

@@ -9,6 +9,7 @@ ghost use Rattle.base.specs.Decided.{Decided};
 ghost use Rattle.season_effects.specs.Effects.{Stretch, Accepted, Ready, EffectPost};
 
 use applying::apply;
+use gates::Refusal;
 use params::Params;
 use season_answers::{answer, record_length};
 use season_file::{Event, Span};
@@ -18,12 +19,11 @@ use season_file::{Event, Span};
 pub struct Effect {
     // the parameters in force
     pub params: Params,
-    pub answer: u32,
     // how many bytes of the room are the message that it prints
     pub printed: usize,
 }
 
-// The event's answer and its effect, with room for a message or a new record: none where it is refused. The serial is the event's number. The room has 32,768
+// The event's effect, with room for a message or a new record, or why it is refused and has none. The serial is the event's number. The room has 32,768
 // bytes too; with other lengths, with parameters that no set-up accepts, or where the event's blocks do not stand in the input in full, nothing is done.
 pub fn take_effect(
     a: Params,
@@ -33,24 +33,17 @@ pub fn take_effect(
     codeword: &mut [u8],
     serials: &mut [u32],
     room: &mut [u8],
-) -> Effect
+) -> Result<Effect, Refusal>
     ensures { EffectPost a input.now serial e codeword.old serials.old room.old result codeword.new serials.new room.new }
 {
-    if let Err(q) = answer(a, serial, e) {
-        return Effect {
-            params: a,
-            answer: u32::from(q),
-            printed: 0,
-        };
-    }
+    answer(a, serial, e)?;
     if is_ready(a, input.len(), e, codeword.len(), serials.len(), room.len()) {
-        return apply(a, input, serial, e, codeword, serials, room);
+        return Ok(apply(a, input, serial, e, codeword, serials, room));
     }
-    Effect {
+    Ok(Effect {
         params: a,
-        answer: 0,
         printed: 0,
-    }
+    })
 }
 
 // Whether an accepted event can take effect.

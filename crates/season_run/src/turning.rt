@@ -1,11 +1,15 @@
 // One event after the set-up.
 ghost use Rattle.std.specs.Prelude.{◌≡◌, List, ℕ, ◌≤◌, ◌<◌, length, Ok};
+ghost use Rattle.gates.specs.Refusals.{answer};
 ghost use Rattle.season_file.specs.File.{item_at};
+ghost use Rattle.season_effects.specs.Effects.{effect_of};
 ghost use Rattle.season_run.specs.Season.{Goes, place_of, Room, Turned, Standing, TurnPost};
 
 use super::{State, Turn, idle, last_line};
+use gates::Refusal;
+use params::Params;
 use season_answers::record_length;
-use season_effects::take_effect;
+use season_effects::{Effect, take_effect};
 use season_file::parsing::parse;
 use season_file::{FileFault, Found};
 use season_lines::write_line;
@@ -109,23 +113,38 @@ fn try_within(
 {
     let event = found.event;
     let serial = s.number as u32;
-    let effect = take_effect(s.params, input, serial, event, codeword, serials, room);
-    let params = effect.params;
-    let printed = effect.printed;
+    let taken = take_effect(s.params, input, serial, event, codeword, serials, room);
+    let (answer, effect) = told(s.params, taken);
     let written = write_line(
         line,
         s.number,
         u8::from(event.kind()),
-        effect.answer,
-        &room[..printed],
+        answer,
+        &room[..effect.printed],
     );
     Turn {
         written,
         next: Some(State {
-            params,
+            params: effect.params,
             number: s.number + 1,
             left: s.left - 1,
             at: found.next,
         }),
+    }
+}
+
+// The answer that an event's line tells, and what the event leaves: where it is refused, the parameters in force.
+fn told(a: Params, taken: Result<Effect, Refusal>) -> (u32, Effect)
+    ensures { (result.0 ≡ answer taken) × (result.1 ≡ effect_of a taken) }
+{
+    match taken {
+        Ok(effect) => (0, effect),
+        Err(q) => (
+            u32::from(q),
+            Effect {
+                params: a,
+                printed: 0,
+            },
+        ),
     }
 }

@@ -62,59 +62,49 @@ apply_reconfigure-requires c =
 pub returns-in-Update : goal.returns-in-Update
 returns-in-Update c =
     let s = c in
-    let r = c.apply_update in (
-      r.ensures.0,
-      subst⁻¹
-          (λ (e : Event).
-          Taken s.args.a s.args.input.now s.args.serial e s.args.codeword.now s.args.serials.now s.args.room.now r.result
-          r.new.codeword r.new.serials s.args.room.now)
-          c.in-Update.is (r.ensures.1 s.args.room.now),
-    )
+    let r = c.apply_update in
+    subst⁻¹
+    (λ (e : Event).
+    Taken s.args.a s.args.input.now s.args.serial e s.args.codeword.now s.args.serials.now s.args.room.now 0 r.result
+    r.new.codeword r.new.serials s.args.room.now)
+    c.in-Update.is (r.ensures s.args.room.now)
 
 pub returns-in-Repair : goal.returns-in-Repair
 returns-in-Repair c =
     let s = c in
-    let r = c.apply_repair in (
-      r.ensures.0,
-      subst⁻¹
-          (λ (e : Event).
-          Taken s.args.a s.args.input.now s.args.serial e s.args.codeword.now s.args.serials.now s.args.room.now r.result
-          r.new.codeword r.new.serials s.args.room.now)
-          c.in-Repair.is (r.ensures.1 s.args.input.now s.args.room.now s.args.serial),
-    )
+    let r = c.apply_repair in
+    subst⁻¹
+    (λ (e : Event).
+    Taken s.args.a s.args.input.now s.args.serial e s.args.codeword.now s.args.serials.now s.args.room.now 0 r.result
+    r.new.codeword r.new.serials s.args.room.now)
+    c.in-Repair.is (r.ensures s.args.input.now s.args.room.now s.args.serial)
 
 pub returns-in-Damage : goal.returns-in-Damage
 returns-in-Damage c =
     let s = c in
-    let r = c.apply_damage in (
-      r.ensures.0,
-      subst⁻¹
-          (λ (e : Event).
-          Taken s.args.a s.args.input.now s.args.serial e s.args.codeword.now s.args.serials.now s.args.room.now r.result
-          r.new.codeword s.args.serials.now s.args.room.now)
-          c.in-Damage.is (r.ensures.1 s.args.room.now s.args.serials.now s.args.serial),
-    )
+    let r = c.apply_damage in
+    subst⁻¹
+    (λ (e : Event).
+    Taken s.args.a s.args.input.now s.args.serial e s.args.codeword.now s.args.serials.now s.args.room.now 0 r.result
+    r.new.codeword s.args.serials.now s.args.room.now)
+    c.in-Damage.is (r.ensures s.args.room.now s.args.serials.now s.args.serial)
 
 pub returns-in-Decode : goal.returns-in-Decode
 returns-in-Decode c =
     let s = c in
-    let r = c.apply_decode in (
-      r.ensures.0,
-      subst⁻¹
-          (λ (e : Event).
-          Taken s.args.a s.args.input.now s.args.serial e s.args.codeword.now s.args.serials.now s.args.room.now r.result
-          s.args.codeword.now s.args.serials.now r.new.room)
-          c.in-Decode.is (r.ensures.1 s.args.input.now s.args.serials.now s.args.serial s.requires.ready.serials_room),
-    )
+    let r = c.apply_decode in
+    subst⁻¹
+    (λ (e : Event).
+    Taken s.args.a s.args.input.now s.args.serial e s.args.codeword.now s.args.serials.now s.args.room.now 0 r.result
+    s.args.codeword.now s.args.serials.now r.new.room)
+    c.in-Decode.is (r.ensures s.args.input.now s.args.serials.now s.args.serial s.requires.ready.serials_room)
 
 pub returns-in-Reconfigure : goal.returns-in-Reconfigure
 returns-in-Reconfigure c =
     let s = c in
-    let r = c.apply_reconfigure in (
-      r.ensures.0,
-      subst⁻¹
-          (λ (e : Event).
-          Taken s.args.a s.args.input.now s.args.serial e s.args.codeword.now s.args.serials.now s.args.room.now r.result
-          r.new.codeword r.new.serials r.new.room)
-          c.in-Reconfigure.is (r.ensures.1 s.args.serial),
-    )
+    let r = c.apply_reconfigure in
+    subst⁻¹
+    (λ (e : Event).
+    Taken s.args.a s.args.input.now s.args.serial e s.args.codeword.now s.args.serials.now s.args.room.now 0 r.result
+    r.new.codeword r.new.serials r.new.room)
+    c.in-Reconfigure.is (r.ensures s.args.serial)

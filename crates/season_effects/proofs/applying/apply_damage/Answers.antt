@@ -1,5 +1,5 @@
 -- The nodes are all within n, and their blocks become those given, in rising order. Assumes nothing.
-use mathlib.Core.Path.{refl, sym}
+use mathlib.Core.Path.{sym}
 use native.Mathlib.Omega.{arith}
 use lib.Seq.{length-take-le}
 use Rattle.gates.proofs.Valid.{n-fits}
@@ -20,8 +20,6 @@ slice_bounds-put_blocks-end-2 c =
 
 pub returns : goal.returns
 returns c =
-    let s = c in (
-      refl,
-      damage-applied s.args.a s.args.input.now s.args.f s.args.codeword.now s.requires.valid s.requires.codeword_len s.requires.stretch (omega arith) s.requires.accepted _
-          c.put_blocks.ensures,
-    )
+    let s = c in
+    damage-applied s.args.a s.args.input.now s.args.f s.args.codeword.now s.requires.valid s.requires.codeword_len s.requires.stretch (omega arith) s.requires.accepted _
+    c.put_blocks.ensures

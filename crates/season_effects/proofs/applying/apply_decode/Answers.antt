@@ -1,5 +1,5 @@
 -- The call on the record, with the front of the room for the message. Assumes nothing.
-use mathlib.Core.Path.{refl, sym, ◌∙◌}
+use mathlib.Core.Path.{sym, ◌∙◌}
 use native.Mathlib.Omega.{arith}
 use lib.Seq.{length-take-le}
 use Rattle.gates.proofs.Valid.{n-fits, k-fits}
@@ -26,8 +26,6 @@ slice_bounds-decode-end-3 c = let s = c in sym (length-take-le _ c.args.room.now
 
 pub returns : goal.returns
 returns c =
-    let s = c in (
-      refl,
-      decode-applied s.args.a s.args.f s.args.codeword.now s.args.room.now _ _ s.requires.valid s.requires.codeword_len.0 s.requires.codeword_len.1
-          s.requires.accepted (c.decode.auto.out ∙ length-take-le _ s.args.room.now (omega (arith, s.requires.codeword_len.1, blocks-room s.args.a s.args.a.k s.requires.valid (omega arith)))) c.decode.ensures,
-    )
+    let s = c in
+    decode-applied s.args.a s.args.f s.args.codeword.now s.args.room.now _ _ s.requires.valid s.requires.codeword_len.0 s.requires.codeword_len.1
+    s.requires.accepted (c.decode.auto.out ∙ length-take-le _ s.args.room.now (omega (arith, s.requires.codeword_len.1, blocks-room s.args.a s.args.a.k s.requires.valid (omega arith)))) c.decode.ensures

@@ -1,5 +1,5 @@
 -- The call on the record, the serials and the change. Assumes nothing.
-use mathlib.Core.Path.{refl, sym, ◌∙◌}
+use mathlib.Core.Path.{sym, ◌∙◌}
 use native.Mathlib.Omega.{arith}
 use Rattle.gates.proofs.Valid.{n-fits}
 use Rattle.season_effects.proofs.Fronts.{blocks-room}
@@ -24,9 +24,7 @@ slice_bounds-update-end-4 c = sym (front-full c.args.a c.args.codeword.now c.arg
 pub returns : goal.returns
 returns c =
     let s = c in
-    let u = c.update in (
-      refl,
-      update-applied s.args.a s.requires.valid s.args.codeword.now s.args.serials.now _ _ s.requires.codeword_len.0 s.requires.codeword_len.1
-          (u.auto.codeword ∙ (front-full c.args.a c.args.codeword.now c.args.serials.now c.requires.valid c.requires.codeword_len.0 c.requires.codeword_len.1).0) (u.auto.serials ∙ (front-full c.args.a c.args.codeword.now c.args.serials.now c.requires.valid c.requires.codeword_len.0 c.requires.codeword_len.1).1)
-          s.args.input.now s.args.serial s.args.f _ s.requires.stretch u.ensures,
-    )
+    let u = c.update in
+    update-applied s.args.a s.requires.valid s.args.codeword.now s.args.serials.now _ _ s.requires.codeword_len.0 s.requires.codeword_len.1
+    (u.auto.codeword ∙ (front-full c.args.a c.args.codeword.now c.args.serials.now c.requires.valid c.requires.codeword_len.0 c.requires.codeword_len.1).0) (u.auto.serials ∙ (front-full c.args.a c.args.codeword.now c.args.serials.now c.requires.valid c.requires.codeword_len.0 c.requires.codeword_len.1).1)
+    s.args.input.now s.args.serial s.args.f _ s.requires.stretch u.ensures

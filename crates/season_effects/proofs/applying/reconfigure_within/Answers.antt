@@ -1,5 +1,5 @@
 -- The call on the record and the serials, with the fronts of two rooms for the new ones, which are then laid over the old ones. Assumes nothing.
-use mathlib.Core.Path.{◌≡◌, refl, sym, ◌∙◌}
+use mathlib.Core.Path.{◌≡◌, sym, ◌∙◌}
 use Prim.Native.Nat.{◌*◌, ◌≤◌}
 use native.Mathlib.Omega.{arith}
 use lib.ListN.{length, take}
@@ -111,10 +111,8 @@ slice_bounds-hand_on-end-4 c =
 pub returns : goal.returns
 returns c =
     let s = (goal.at.returns c).Start in
-    let u = c.reconfigure in (
-      refl,
-      reconfigure-applied s.args.a s.args.input.now s.args.f s.requires.accepted s.args.codeword.now s.args.serials.now s.args.room.now
-          s.args.numbers.now s.requires.ready s.requires.numbers_len _ _ _ (u.auto.out ∙ room-front s)
-          (u.auto.numbers ∙ numbers-front s) u.ensures _ c.copy_block.ensures _
-          c.hand_on.ensures,
-    )
+    let u = c.reconfigure in
+    reconfigure-applied s.args.a s.args.input.now s.args.f s.requires.accepted s.args.codeword.now s.args.serials.now s.args.room.now
+    s.args.numbers.now s.requires.ready s.requires.numbers_len _ _ _ (u.auto.out ∙ room-front s)
+    (u.auto.numbers ∙ numbers-front s) u.ensures _ c.copy_block.ensures _
+    c.hand_on.ensures

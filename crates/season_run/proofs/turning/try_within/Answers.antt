@@ -1,46 +1,56 @@
 -- The event is ready for its effect, and the line has the room for any message. Assumes nothing.
-use mathlib.Core.Path.{sym, ◌∙◌}
+use mathlib.Core.Path.{sym, ◌∙◌, subst}
 use native.Mathlib.Omega.{arith}
-use lib.ListN.{length}
 use lib.Seq.{length-take-le}
-use Rattle.season_effects.specs.Effects.{Ready}
+use Rattle.gates.specs.Refusals.{answer}
+use Rattle.season_effects.specs.Effects.{Taken}
+use Rattle.season_effects.specs.declared.Effect.{Effect}
 use Rattle.season_run.proofs.Events.{found-good}
 use Rattle.season_run.proofs.Turns.{event-turn}
 use Rattle.season_run.proofs.turning.try_within.Goals as goal
-use Rattle.season_run.proofs.turning.try_within.Goals.{Start}
+use Rattle.season_run.proofs.turning.try_within.Goals.{After-told-answer}
 
--- what the effect is given
-ready : (c : Start)
-    → Ready c.args.s.params (length c.args.input.now) c.args.found.event (length c.args.codeword.now) (length c.args.serials.now) (length c.args.room.now)
-ready c =
+-- what the event leaves, since it is ready
+left : (c : After-told-answer)
+    → Taken c.args.s.params c.args.input.now c.args.s.number c.args.found.event c.args.codeword.now c.args.serials.now c.args.room.now
+    (answer c.take_effect-taken.result) c.told-answer.result.1 c.take_effect-taken.new.codeword c.take_effect-taken.new.serials c.take_effect-taken.new.room
+left c =
+    let a = c.args in
+    let t = c.take_effect-taken in
     let p = c.requires in
-    record {
+    subst
+    (λ (r : Effect).
+    Taken a.s.params a.input.now a.s.number a.found.event a.codeword.now a.serials.now a.room.now (answer t.result) r t.new.codeword t.new.serials t.new.room)
+    (sym c.told-answer.ensures.1)
+    (t.ensures.served
+    (record {
       valid = p.standing.valid;
-      found = (found-good c.args.s.params c.args.input.now c.args.s.at c.args.found p.at_value).found;
+      found = (found-good a.s.params a.input.now a.s.at a.found p.at_value).found;
       record_room = p.room.record_room;
       serials_room = p.room.serials_room;
       work_room = p.room_len;
-    }
+    }))
 
 pub overflow_cast-serial : goal.overflow_cast-serial
 overflow_cast-serial c = omega (arith, c.requires.standing.countable)
 
 pub slice_bounds-write_line-end : goal.slice_bounds-write_line-end
 slice_bounds-write_line-end c =
-    let taken = c.take_effect-effect.ensures.served (ready (goal.at.slice_bounds-write_line-end c).Start) in
-    omega (arith, taken.printed_fits, c.take_effect-effect.auto.room, c.requires.room_len)
+    let taken = left (goal.at.slice_bounds-write_line-end c).After-told-answer in
+    omega (arith, taken.printed_fits, c.take_effect-taken.auto.room, c.requires.room_len)
 
 pub slice_bounds-write_line-end-2 : goal.slice_bounds-write_line-end-2
 slice_bounds-write_line-end-2 c =
-    let taken = c.take_effect-effect.ensures.served (ready (goal.at.slice_bounds-write_line-end-2 c).Start) in
-    sym (length-take-le _ c.take_effect-effect.new.room (omega (arith, taken.printed_fits, c.take_effect-effect.auto.room, c.requires.room_len)))
+    let taken = left (goal.at.slice_bounds-write_line-end-2 c).After-told-answer in
+    sym (length-take-le _ c.take_effect-taken.new.room (omega (arith, taken.printed_fits, c.take_effect-taken.auto.room, c.requires.room_len)))
 
 pub returns : goal.returns
 returns c =
     let s = c in
-    let e = c.take_effect-effect in
-    let taken = e.ensures.served (ready (goal.at.returns c).Start) in
+    let e = c.take_effect-taken in
+    let r = c.told-answer.result.1 in
+    let taken = left (goal.at.returns c).After-told-answer in
     event-turn s.args.input.now s.args.s s.args.found s.requires.at_value s.args.codeword.now s.args.serials.now s.args.line.now
-    s.requires.room.line_room e.result.params _ _ _ _ _ _ _ s.requires.left_nonzero taken.effected
-    (omega (arith, taken.printed_fits, length-take-le e.result.printed e.new.room (omega (arith, taken.printed_fits, e.auto.room, s.requires.room_len))))
-    (c.from.ensures ∙ c.kind.ensures) e.ensures.answer_is c.write_line-written.ensures
+    s.requires.room.line_room r.params _ _ _ _ _ _ _ s.requires.left_nonzero taken.effected
+    (omega (arith, taken.printed_fits, length-take-le r.printed e.new.room (omega (arith, taken.printed_fits, e.auto.room, s.requires.room_len))))
+    (c.from.ensures ∙ c.kind.ensures) (c.told-answer.ensures.0 ∙ e.ensures.answer_is) c.write_line-written.ensures
