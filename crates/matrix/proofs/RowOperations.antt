@@ -6,6 +6,7 @@ use mathlib.Core.Logic.Iff
 use mathlib.Core.Logic.{◌↔◌, ⊎_elim}
 use Prim.Native.Nat.{ℕ, ◌+◌, ◌≤◌, ◌<◌}
 use native.Mathlib.Omega.{arith}
+use Rattle.std.specs.Prelude.{Option, Some, None, MatchOption}
 use Rattle.base.proofs.Cases.{lt-or, eq-or}
 use Rattle.field.specs.Field.{IsByte, Inverse, add, mul}
 use Rattle.field.specs.FiniteSum.{sum}
@@ -13,7 +14,7 @@ use Rattle.field.proofs.Addition.{add-self, add-zero-left, add-zero-right}
 use Rattle.field.proofs.Multiplication.{mul-add-left, mul_assoc, mul_comm, mul-byte, mul-zero-right, mul-one-left, mul-one-right}
 use Rattle.field.proofs.FiniteSum.{sum-byte, sum-ext, sum-add, mul-sum}
 use Rattle.matrix.specs.Product.{unit}
-use Rattle.matrix.specs.Working.{grid, row_plus, row_times, Rewritten, Kills, Units, Reduced, FoundAt, Raised, Ready}
+use Rattle.matrix.specs.Working.{grid, row_plus, row_times, Rewritten, Kills, Units, Reduced, FoundAt, Found, Raised, Ready}
 use Rattle.matrix.proofs.Identity.{unit-same, unit-other}
 use Rattle.matrix.proofs.Rewriting.{by_copy}
 
@@ -121,12 +122,12 @@ reduced-none s w j u = record { same = λ z. Iff.rfl; units = u }
 pub reduced-then : (s j k : ℕ) (a b c : List (List ℕ)) → Reduced s j a b → Reduced s k b c → Reduced s k a c
 reduced-then s j k a b c r q = record { same = λ z. Iff.trans (r.same z) (q.same z); units = q.units }
 
-pub reduced-less : (s j k : ℕ) (a b : List (List ℕ)) → k ≤ j → Reduced s j a b → Reduced s k a b
-reduced-less s j k a b h r = record { same = r.same; units = λ i c hi hc. r.units i c hi (omega arith) }
-
-pub raised-none : (s j p : ℕ) (w : List (List ℕ)) → Units s j w → FoundAt s j w p → p ≡ j → Raised s j w w
-raised-none s j p w u f e =
-    record { reduced = reduced-none s w j u; nonzero = subst (λ (x : ℕ). grid w x j ≡ 0 → ⊥) e f.nonzero }
+-- what a search of the rows from j on tells
+pub found-first : (s j : ℕ) (w : List (List ℕ)) (r : Option ℕ)
+    → MatchOption r ((k : ℕ) → j ≤ k → k < s → grid w k j ≡ 0)
+    (λ i. (j ≤ i) × (i < s) × (grid w i j ≡ 0 → ⊥) × ((k : ℕ) → j ≤ k → k < i → grid w k j ≡ 0)) → Found s j w r
+found-first s j w (Some i) m = record { low = m.0; within = m.1; nonzero = m.2; first = λ k hk low. m.3 k low hk }
+found-first s j w None m = λ k hk low. m k low hk
 
 -- row p is added: row j had a zero
 pub raised-added : (s j p : ℕ) (old new : List (List ℕ)) → IsByte (grid old p j) → Units s j old → FoundAt s j old p → (p ≡ j → ⊥)
@@ -192,9 +193,6 @@ pub record ClearedBelow (s j i : ℕ) (old new : List (List ℕ)) : Type 0 where
   pub kept : (k : ℕ) → k < s + s → grid new j k ≡ grid old j k
   pub column : (h : ℕ) → h < i → grid new h j ≡ unit h j
 
-pub below_none : (s j : ℕ) (w : List (List ℕ)) → Units s j w → ClearedBelow s j 0 w w
-below_none s j w u = record { reduced = reduced-none s w j u; kept = λ k hk. refl; column = λ h hh. omega arith }
-
 pub still-ready : (s j i : ℕ) (old new : List (List ℕ)) → Ready s j old → ClearedBelow s j i old new → Ready s j new
 still-ready s j i old new d b =
     record { within = d.within; units = b.reduced.units; pivot = b.kept j (omega (arith, d.within)) ∙ d.pivot }
@@ -210,17 +208,6 @@ below_more s j i old mid new hi b x =
           ⊎_elim (λ e. subst (λ (h : ℕ). grid new h j ≡ unit h j) (sym e) x.here)
           (λ ne. x.others h (omega arith) ne ∙ b.column h (omega arith))
           (eq-or h i);
-    }
-
-pub below_all : (s j i : ℕ) (old new : List (List ℕ)) → s ≤ i → ClearedBelow s j i old new → Reduced s (j + 1) old new
-below_all s j i old new hi b =
-    record {
-      same = b.reduced.same;
-      units =
-          λ h k hh hk.
-          ⊎_elim (λ e. subst (λ (x : ℕ). grid new h x ≡ unit h x) (sym e) (b.column h (omega arith)))
-          (λ ne. b.reduced.units h k hh (omega arith))
-          (eq-or k j);
     }
 
 -- ---- the steps as the code takes them: the working matrix says its side, and no step changes it

@@ -59,12 +59,7 @@ impl Work {
         requires { j < self.now.side }
         ensures { Found self.now.side j self.now.rows result }
     {
-        for i in j..self.side {
-            if self.rows[i][j] != 0 {
-                return Some(i);
-            }
-        }
-        None
+        (j..self.side).find(|i| self.rows[*i][j] != 0)
     }
 
     // Brings column j, whose pivot is in row p, to the identity's.
@@ -163,6 +158,7 @@ fn add_to(row: &mut [u8; 64], width: usize, c: u8, other: &[u8; 64])
     ensures done { (k : ℕ) → k < width → get_or row.new k 0 ≡ add (get_or row.old k 0) (mul c (get_or other.now k 0)) }
     ensures bytes { Bytes row.new }
 {
+    // not zipped with the other row: what goes through an adapter of iter_mut, no proof knows afterwards
     for (i, x) in row[..width].iter_mut().enumerate() {
         *x ^= field::times(c, other[i]);
     }
