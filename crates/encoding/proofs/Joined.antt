@@ -8,7 +8,6 @@ use lib.ListN.{length, take, drop, length-append, length-drop}
 use lib.Seq.{length-take-le, take_at, drop_at}
 use Rattle.params.specs.Params.{working}
 use Rattle.params.specs.declared.Params.{Params}
-use Rattle.gates.proofs.Valid.{blocks-most}
 use Rattle.code.specs.Calls.{Encoded}
 use Rattle.blocks.specs.Bytes.{over}
 use Rattle.blocks.proofs.Laws.{over-same}
