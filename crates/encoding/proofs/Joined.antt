@@ -6,7 +6,6 @@ use native.Mathlib.Omega.{arith}
 use borrow.Rule.Slice.PartMut.{put_mid, post_of}
 use lib.ListN.{length, take, drop, length-append, length-drop}
 use lib.Seq.{length-take-le, take_at, drop_at}
-use Rattle.params.specs.Params.{working}
 use Rattle.params.specs.declared.Params.{Params}
 use Rattle.code.specs.Calls.{Encoded}
 use Rattle.blocks.specs.Bytes.{over}
