@@ -22,11 +22,6 @@ loop-place-init c =
 pub next-walk-requires : goal.next-walk-requires
 next-walk-requires c = let w = c.loop-place.invariant in next-lt w.walk (more_left w.walk (omega (arith, w.room)))
 
-pub overflow_cast-place : goal.overflow_cast-place
-overflow_cast-place c =
-    let w = c.loop-place.invariant in
-    record { fits = omega (arith, c.next-walk.ensures.0, next-lt w.walk (more_left w.walk (omega (arith, w.room)))) }
-
 pub loop-place-preserved : goal.loop-place-preserved
 loop-place-preserved c =
     let w = c.loop-place.invariant in

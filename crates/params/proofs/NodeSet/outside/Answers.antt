@@ -3,16 +3,12 @@ use mathlib.Core.Path.{ap, ◌∙◌}
 use Prim.Native.Nat.{ℕ, ◌-◌, ◌^◌}
 use native.Mathlib.Omega.{arith}
 use lib.Bits.{bit_and}
-use lib.Pow.{pow_pos}
 use Rattle.params.specs.Nodes.{has}
 use Rattle.params.proofs.Words.{one_shifted, outside-some, outside-all}
 use Rattle.params.proofs.NodeSet.outside.Goals as goal
 
 pub returns-then-n-ge32 : goal.returns-then-n-ge32
 returns-then-n-ge32 c = λ i. outside-all c.args.n c.args.self.0 i (omega arith) c.if-n-ge32.true
-
-pub overflow_sub-result : goal.overflow_sub-result
-overflow_sub-result c = omega (arith, one_shifted c.args.n (omega arith), pow_pos c.args.n)
 
 pub returns : goal.returns
 returns c = λ i.
