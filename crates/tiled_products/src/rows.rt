@@ -41,12 +41,10 @@ pub(crate) fn add_tiles<const TILE: usize, const MOST: usize>(
         coeffs,
         stride,
     );
-    let mut at = 0;
-    while at < b {
+    for at in (0..b).step_by(TILE) {
         let w = (b - at).min(TILE);
         fill_groups::<TILE>(table, groups, size, b, at, w, src, places);
         add_tile_rows::<TILE, MOST>(out, targets, b, at, w, table, groups, picks);
-        at += w;
     }
 }
 
