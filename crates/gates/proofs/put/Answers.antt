@@ -1,4 +1,3 @@
-use mathlib.Core.Path.{sym}
 use Rattle.base.proofs.Questions.{nay, yea, over, first}
 use Rattle.gates.proofs.put.Goals as goal
 

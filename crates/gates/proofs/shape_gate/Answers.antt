@@ -1,12 +1,8 @@
 -- Four questions, one after the other; the sums of the fourth are small after the first three. Assumes nothing.
-use mathlib.Core.Path.{◌≡◌}
-use mathlib.Core.Bool.{true, ◌&&◌}
+use mathlib.Core.Bool.{◌&&◌}
 use mathlib.Core.List.{[], ◌∷◌}
-use Prim.Native.Nat.{◌+◌, ◌≤◌}
 use native.Mathlib.Omega.{arith}
 use lib.Dec.{leb}
-use mir.Syntax.{w64}
-use mir.Val.{Fits}
 use Rattle.base.proofs.Questions.{both-known, both-le}
 use Rattle.gates.proofs.Answers.{refused, passed, yes}
 use Rattle.gates.proofs.shape_gate.Goals as goal
