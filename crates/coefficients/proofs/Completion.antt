@@ -1,28 +1,24 @@
 -- Completion rows: the gains take what the remaining coefficients give at some points to what they give at others, and what the leading ones give
 -- there goes the same way and is counted twice, that is not at all. Assumes nothing.
-use mathlib.Core.Path.{◌≡◌, refl, sym, ap, ap₂, ◌∙◌}
-use mathlib.Core.Bool.{Bool, true, false, not}
+use mathlib.Core.Path.{◌≡◌, sym, ap, ap₂, ◌∙◌}
 use mathlib.Core.List.{List, ◌++◌}
 use Prim.Native.Nat.{ℕ, suc, ◌*◌, ◌≤◌, ◌<◌}
 use native.Mathlib.Nat.{le_refl}
 use native.Mathlib.Omega.{arith}
 use lib.ListN.{length, get_or, take}
 use Rattle.base.specs.Seq.{cell}
-use Rattle.base.specs.Decided.{Decided}
 use Rattle.base.proofs.Buffers.{buffer-front}
-use Rattle.base.proofs.Decisions.{decided-true, decided-false}
 use Rattle.field.specs.Field.{add, mul, pow}
 use Rattle.field.specs.FiniteSum.{sum}
 use Rattle.field.proofs.Addition.{add_assoc, add-cancel}
 use Rattle.field.proofs.Multiplication.{mul_comm, mul-add-left, mul-add-right}
 use Rattle.field.proofs.FiniteSum.{sum-ext, sum-add}
-use Rattle.interpolation.specs.Polynomial.{evaluate, Points}
+use Rattle.interpolation.specs.Polynomial.{evaluate}
 use Rattle.interpolation.proofs.Lagrange.{associate}
 use Rattle.params.specs.Nodes.{in_order}
 use Rattle.products.specs.Blocks.{Fits, Added}
 use Rattle.products.proofs.Arriving.{ordered-added}
-use Rattle.points.specs.Lists.{Among}
-use Rattle.coefficients.specs.Coefficients.{power_rows, Extends, Roomy, ExtendsPost}
+use Rattle.coefficients.specs.Coefficients.{power_rows, Extends}
 use Rattle.coefficients.specs.Working.{remaining, Weighable, Carries, Shared}
 use Rattle.coefficients.proofs.Laws.{length-power_rows, power_rows-at, product-fits, first-length, first-at, first-inside, product-first}
 
@@ -103,35 +99,3 @@ completed e at targets old leading gains hl carry share =
           sum-ext m _ _ (λ o ho. mul-add-right (g o) _ _) ∙ sum-add m _ _ ∙ ap (add G) (sym (carry.takes v hv t ht)) in
           sym (ap₂ add first second ∙ sym (add_assoc (add L G) G R) ∙ ap (λ (q : ℕ). add q R) (add-cancel L G));
     }
-
--- ---- what the call leaves
-
--- the last question is about the targets
-pub roomy-told : (e : ℕ) (at targets : List ℕ) (leading gains : ℕ) (b : Bool) → e ≤ 32 → length at ≤ 32 → length targets ≤ 32 → Points at
-    → leading ≡ length targets * e → gains ≡ length targets * length at → Decided (Among (length targets) targets 0) b
-    → Decided (Roomy e at targets leading gains) (not b)
-roomy-told e at targets leading gains true e_most most few tell leading_room gains_room d =
-    decided-false _ (λ r. let f = d.holds refl in r.nonzero f.0 f.1 f.2)
-roomy-told e at targets leading gains false e_most most few tell leading_room gains_room d =
-    decided-true _
-    record {
-      e_most = e_most;
-      most = most;
-      few = few;
-      tell = tell;
-      nonzero = λ t h z. d.fails refl (t, h, z);
-      leading_room = leading_room;
-      gains_room = gains_room;
-    }
-
--- what is asked for cannot be had
-pub extends-kept : (e : ℕ) (at targets leading gains : List ℕ) → (Roomy e at targets (length leading) (length gains) → ⊥)
-    → ExtendsPost e at targets leading gains leading gains
-extends-kept e at targets leading gains none =
-    record { same_leading = refl; same_gains = refl; written = λ r. absurd (none r); kept = λ r. (refl, refl) }
-
-pub extends-made : (e : ℕ) (at targets oldLeading oldGains leading gains : List ℕ) → Roomy e at targets (length oldLeading) (length oldGains)
-    → length leading ≡ length oldLeading → length gains ≡ length oldGains → Extends e at targets leading gains
-    → ExtendsPost e at targets oldLeading oldGains leading gains
-extends-made e at targets oldLeading oldGains leading gains can sameLeading sameGains done =
-    record { same_leading = sameLeading; same_gains = sameGains; written = λ r. done; kept = λ none. absurd (none can) }

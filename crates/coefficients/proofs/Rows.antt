@@ -1,22 +1,18 @@
 -- Rows of powers as the code writes them, one after the other. Assumes nothing.
-use mathlib.Core.Path.{◌≡◌, refl, sym, ap, ap₂, ◌∙◌}
-use mathlib.Core.Bool.{Bool, true, not}
+use mathlib.Core.Path.{◌≡◌, sym, ap, ap₂, ◌∙◌}
 use mathlib.Core.List.{List}
 use Prim.Native.Nat.{ℕ, zero, suc, ◌*◌, ◌≤◌, ◌<◌}
 use native.Mathlib.Nat.{zero-lt-suc}
 use native.Mathlib.Omega.{arith}
-use lib.Dec.{eqb}
 use lib.ListN.{length, get_or, replicate}
 use lib.Seq.{ext_get_or}
 use Rattle.base.specs.Seq.{tabulate, blocks}
 use Rattle.base.proofs.Seq.{length-tabulate, get_d_tabulate, tabulate-ext, tabulate-zeros, length-blocks}
 use Rattle.base.specs.Parts.{Blocked}
 use Rattle.base.proofs.Parts.{blocked-all}
-use Rattle.base.proofs.Decisions.{told-other}
 use Rattle.field.specs.Field.{mul, pow}
 use Rattle.field.proofs.Multiplication.{mul_comm, mul-zero-left}
 use Rattle.field.proofs.Exponents.{pow-suc}
-use Rattle.coefficients.specs.Coefficients.{power_rows, PowersPost}
 use Rattle.coefficients.specs.Working.{powers_of}
 
 -- a list that was told by its entries
@@ -56,14 +52,3 @@ pub blocked-whole : (b n : ℕ) (f : ℕ → ℕ → ℕ) (t : ℕ) (old new : L
 blocked-whole zero n f t old new ho ht s =
     ext_get_or 0 new (blocks 0 n f) (s.same ∙ ho ∙ sym (length-blocks 0 n f)) (λ i hi. absurd (omega (arith, s.same)))
 blocked-whole (suc b) n f t old new ho ht s = blocked-all (suc b) n f t old new (zero-lt-suc b) ho ht s
-
--- ---- what the call of rows of powers leaves
-
--- out has another length
-pub powers-kept : (points : List ℕ) (m : ℕ) (out : List ℕ) (fits : Bool) → fits ≡ eqb (length out) (length points * m) → not fits ≡ true
-    → PowersPost points m out out
-powers-kept points m out fits r taken =
-    record { written = λ room. absurd (told-other (length out) (length points * m) fits r taken room); kept = λ none. refl }
-
-pub powers-made : (points : List ℕ) (m : ℕ) (old new : List ℕ) → length old ≡ length points * m → new ≡ power_rows m points → PowersPost points m old new
-powers-made points m old new room made = record { written = λ s. made; kept = λ none. absurd (none room) }

@@ -1,5 +1,5 @@
 -- The basis polynomials take the values at points back to coefficients, by Lagrange's formula. Assumes nothing.
-use mathlib.Core.Path.{◌≡◌, refl, sym, ap, ap₂, ◌∙◌}
+use mathlib.Core.Path.{◌≡◌, sym, ap, ap₂, ◌∙◌}
 use mathlib.Core.List.{List}
 use Prim.Native.Nat.{ℕ, suc, ◌+◌, ◌<◌}
 use native.Mathlib.Nat.{zero-add}
@@ -55,15 +55,6 @@ reads k points rows tell rows_are =
     }
 
 -- ---- what the call leaves
-
--- no coefficient is asked for
-pub reads_none : (k : ℕ) (points rows : List ℕ) → k ≡ 0 → ReadsPost k points rows rows
-reads_none k points rows none =
-    record { same = refl; written = λ r. record { takes = λ l x v whole hx hv j hj. absurd (omega arith) }; kept = λ r. refl }
-
--- what is asked for cannot be had
-pub reads_kept : (k : ℕ) (points rows : List ℕ) → (Readable k points (length rows) → ⊥) → ReadsPost k points rows rows
-reads_kept k points rows none = record { same = refl; written = λ r. absurd (none r); kept = λ r. refl }
 
 pub reads_made : (k : ℕ) (points old new : List ℕ) → Readable k points (length old) → length new ≡ length old → BasisRows k points (length points) new
     → ReadsPost k points old new
