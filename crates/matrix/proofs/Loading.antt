@@ -6,9 +6,16 @@ use Prim.Native.Nat.{ℕ, zero, suc, ◌+◌, ◌-◌, ◌*◌, ◌≤◌, ◌<�
 use native.Mathlib.Nat.{not-suc-le-zero}
 use native.Mathlib.Omega.{arith}
 use lib.ListN.{length, get_or, set, take, drop, replicate, get_or-append, length-append, length-set}
-use lib.Seq.{get_or-set_same, get_or-set_other, get_or-take, get_or-drop, get_or-append-add}
+use lib.Seq.{get_or-set_same, get_or-set_other, get_or-take, get_or-drop, get_or-append-add, drop-drop, take-append_seam, drop-append_seam}
 use borrow.Rule.Slice.PartMut.{put_mid}
+use native.Mathlib.Nat.{suc-mul, lt_of_mul-lt-mul_right}
 use Rattle.std.proofs.Common.{length-take, length-drop}
+use denote.Ref.{Bor}
+use Rattle.std.specs.Prelude.{Option, Some, None}
+use Rattle.std.specs.declared.iter.Enumerate.{Enumerate}
+use Rattle.std.specs.declared.slice.ChunksExact.{ChunksExact}
+use Rattle.std.specs.Iterator.Adapters.{enumerate_source, enumerate_count, enumerate_steps}
+use Rattle.std.specs.Slice.Iter.{chunks_exact_rest, chunks_exact_size, chunks_exact_steps}
 use Rattle.base.proofs.Cases.{lt-or, eq-or}
 use Rattle.base.proofs.Seq.{cell-lt, zeros-at}
 use Rattle.field.specs.Field.{IsByte, Bytes}
@@ -87,7 +94,7 @@ loaded-row i entries row hi size small known zeros =
         (lt-or k (length entries))
 
 pub loaded-more : (s i : ℕ) (m entries row : List ℕ) (w : List (List ℕ)) → i < s → s ≤ 32 → length entries ≡ s
-    → entries ≡ take (i * s + s - i * s) (drop (i * s) m) → LoadedRow i entries row → LoadedBelow s m i w → LoadedBelow s m (i + 1) (set w i row)
+    → entries ≡ take s (drop (i * s) m) → LoadedRow i entries row → LoadedBelow s m i w → LoadedBelow s m (i + 1) (set w i row)
 unfolding entry
 loaded-more s i m entries row w hi side count e r b =
     record {
@@ -106,7 +113,7 @@ loaded-more s i m entries row w hi side count e r b =
 
     here-left : (h k : ℕ) → h ≡ i → k < s → grid (set w i row) h k ≡ entry s m h k
     here-left h k q hk =
-        here h k q ∙ r.left k (omega arith) ∙ ap (λ (x : List ℕ). get_or x k 0) e ∙ get_or-take (i * s + s - i * s) (drop (i * s) m) k 0 (omega arith)
+        here h k q ∙ r.left k (omega arith) ∙ ap (λ (x : List ℕ). get_or x k 0) e ∙ get_or-take s (drop (i * s) m) k 0 hk
         ∙ get_or-drop (i * s) m k 0 ∙ ap (λ (x : ℕ). get_or m (x * s + k) 0) (sym q)
 
     here-right : (h k : ℕ) → h ≡ i → k < s → grid (set w i row) h (s + k) ≡ unit h k
@@ -141,3 +148,62 @@ stored_more s i w out row hi size count r b h k hh hk = ⊎_elim here before (eq
         get_or-append (take (i * s) out) _ 0 (h * s + k) (omega (arith, start, cell-lt s i h k (omega arith) hk))
         ∙ get_or-take (i * s) out (h * s + k) 0 (cell-lt s i h k (omega arith) hk)
         ∙ b h k (omega arith) hk
+
+-- ---- the rows of m, one after the other
+
+abbrev pub Lines : Type 0
+Lines = Enumerate (ChunksExact ℕ)
+
+abbrev pub steps : Lines → Option (ℕ × Bor (List ℕ)) → Lines → Type 0
+steps = enumerate_steps chunks_exact_steps
+
+-- what is left of m after so many turns
+pub record Going (s : ℕ) (m : List ℕ) (turns : ℕ) (t : Lines) : Type 0 where
+  pub counted : enumerate_count t ≡ turns
+  pub left : chunks_exact_rest (enumerate_source t) ≡ drop (turns * s) m
+  pub sized : chunks_exact_size (enumerate_source t) ≡ s
+
+module _ {s turns : ℕ} {m : List ℕ} {t : Lines} (g : Going s m turns t) (some : 1 ≤ s) (size : length m ≡ s * s) where
+  module _ (i : ℕ) (entries : Bor (List ℕ)) (u : Lines) (step : steps t (Some (i, entries)) u) where
+    block : entries.now ++ chunks_exact_rest (enumerate_source u) ≡ drop (turns * s) m
+    block = sym step.0.1.0 ∙ g.left
+
+    pub at : i ≡ turns
+    at = step.1 ∙ g.counted
+
+    pub long : length entries.now ≡ s
+    long = step.0.1.1 ∙ g.sized
+
+    pub is : entries.now ≡ take s (drop (turns * s) m)
+    is =
+        sym (take-append_seam entries.now (chunks_exact_rest (enumerate_source u))) ∙ ap (take (length entries.now)) block
+        ∙ ap (λ (n : ℕ). take n (drop (turns * s) m)) long
+
+    pub within : turns < s
+    within =
+        lt_of_mul-lt-mul_right s
+        (omega (arith, long, ap length block, length-append entries.now (chunks_exact_rest (enumerate_source u)), length-drop (turns * s) m))
+
+    pub go_on : Going s m (turns + 1) u
+    go_on =
+        record {
+          counted = step.2 ∙ ap (λ (n : ℕ). n + 1) g.counted;
+          left =
+              sym (drop-append_seam entries.now (chunks_exact_rest (enumerate_source u))) ∙ ap (drop (length entries.now)) block
+              ∙ drop-drop (length entries.now) (turns * s) m ∙ ap (λ (n : ℕ). drop n m) (omega (arith, long, suc-mul turns s));
+          sized = step.0.0 ∙ g.sized;
+        }
+
+    pub loaded : (row : List ℕ) (w : List (List ℕ)) → s ≤ 32 → LoadedRow i entries.now row → LoadedBelow s m turns w
+        → LoadedBelow s m (turns + 1) (set w i row)
+    loaded row w side r b =
+        subst (λ (x : ℕ). LoadedBelow s m (turns + 1) (set w x row)) (sym at)
+        (loaded-more s turns m entries.now row w within side long is (subst (λ (x : ℕ). LoadedRow x entries.now row) at r) b)
+
+  -- the loop ends once each row had its turn
+  pub ended : (u : Lines) → steps t None u → s ≤ turns
+  ended u step =
+      ⊎_elim
+      (λ h. absurd (omega (arith, line-within s turns h, step.0.1.0, g.sized, ap length g.left, length-drop (turns * s) m)))
+      (λ h. h)
+      (lt-or turns s)

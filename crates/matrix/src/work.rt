@@ -11,6 +11,7 @@ use crate::Uninvertible;
 pub(crate) struct Work {
     side: usize,
     rows: [[u8; 64]; 32],
+    ghost some: { 1 ≤ side },
     ghost fits: { side ≤ 32 },
     ghost bytes: { (i k : ℕ) → IsByte (grid rows i k) },
 }
@@ -18,7 +19,7 @@ pub(crate) struct Work {
 impl Work {
     // Zeros, for `load` to fill: the matrix is loaded in place, since a value that is filled and then returned would be copied.
     pub(crate) fn zeros(side: usize) -> Work
-        requires { side ≤ 32 }
+        requires { (1 ≤ side) × (side ≤ 32) }
         ensures { (result.side ≡ side) × ((i k : ℕ) → grid result.rows i k ≡ 0) }
     {
         Work {
@@ -32,11 +33,9 @@ impl Work {
         requires { (length m.now ≡ self.old.side * self.old.side) × ((i k : ℕ) → grid self.old.rows i k ≡ 0) }
         ensures { (self.new.side ≡ self.old.side) × Loaded self.old.side m.now self.new.rows }
     {
-        let side = self.side;
-        for i in 0..side {
-            let at = i * side;
+        for (i, entries) in m.chunks_exact(self.side).enumerate() {
             let rows = &mut self.rows;
-            load_row(&mut rows[i], i, &m[at..at + side]);
+            load_row(&mut rows[i], i, entries);
         }
     }
 
@@ -90,6 +89,7 @@ impl Work {
         ensures { (self.new.side ≡ self.old.side) × Rewritten self.old.side j self.old.rows self.new.rows (row_times self.old.rows c j) }
     {
         let width = 2 * self.side;
+        // a name for the rows, and the whole row to the function: by `&mut rows[j][..width]` no proof knows the row afterwards
         let rows = &mut self.rows;
         scale(&mut rows[j], width, c);
     }
@@ -124,6 +124,7 @@ impl Work {
         ensures { (i k : ℕ) → i < self.now.side → k < self.now.side → entry self.now.side out.new i k ≡ grid self.now.rows i (self.now.side + k) }
     {
         let side = self.side;
+        // by an index: what goes through chunks_exact_mut, no proof knows afterwards
         for i in 0..side {
             let at = i * side;
             out[at..at + side].copy_from_slice(&self.rows[i][side..2 * side]);
