@@ -5,22 +5,20 @@
 mod searching;
 
 ghost use Rattle.std.specs.Prelude.{◌≤◌, length};
-ghost use Rattle.code.specs.Calls.{CheckPost, Blames};
+ghost use Rattle.code.specs.Calls.{CheckPost, Blames, verdict};
 ghost use Rattle.checking.specs.Cores.{Searchable};
 
-use code::{Blame, Verdict};
-use gates::check_gate;
+use code::Blame;
+use gates::{Refusal, check_gate};
 use params::Params;
 use searching::search;
 
 // The first set that serves, among as many as the budget allows; else all nodes behind the first q, and how far their number may be above the smallest. Room for
 // the blocks of the nodes behind the first ones is no more than is wanted, since it is cleared at each call.
-pub fn check(a: Params, codeword: &[u8], budget: usize) -> Verdict
-    ensures { CheckPost a codeword.now budget result }
+pub fn check(a: Params, codeword: &[u8], budget: usize) -> Result<Blame, Refusal>
+    ensures { CheckPost a codeword.now budget (verdict result) }
 {
-    if let Err(q) = check_gate(a, codeword.len()) {
-        return Verdict::Refused(u32::from(q));
-    }
+    check_gate(a, codeword.len())?;
     let size = (a.n - a.working()) * a.b;
     let blame = if size <= 128 {
         search_in::<128>(a, codeword, budget)
@@ -29,7 +27,7 @@ pub fn check(a: Params, codeword: &[u8], budget: usize) -> Verdict
     } else {
         search_in::<32768>(a, codeword, budget)
     };
-    Verdict::Blamed(blame)
+    Ok(blame)
 }
 
 // Kept apart, so that a call takes stack for its own room alone.

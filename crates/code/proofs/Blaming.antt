@@ -23,8 +23,7 @@ use Rattle.subsets.proofs.Successor.{next-exists}
 use Rattle.code.specs.Code.{block, Gives}
 use Rattle.code.specs.Calls.{Serves, NoneBefore, Found, Stopped, Blames, number, CheckPost}
 use Rattle.code.specs.declared.Blame.{Blame}
-use Rattle.code.specs.declared.Verdict.{Verdict}
-use Rattle.code.specs.declared.Verdict.TheVariants.{Refused, Blamed}
+use Rattle.code.specs.Verdict.{Verdict, Refused, Blamed}
 use Rattle.code.proofs.Pairs.{free}
 use Rattle.code.proofs.Serving.{Same, none_first, none-next, serves-dec, behind-serves, stopped-size, one-pair}
 

@@ -1,19 +1,20 @@
 -- "The calls" (document 01, with what document 02 changes): for each, what its answer and every byte of its buffers are, served and refused. Results are said
 -- by their meaning, through the one pair with the given blocks; that there is exactly one is proved in proofs/. Assumes nothing.
-use Rattle.std.specs.Prelude.{◌≡◌, Bool, true, false, not, ◌&&◌, ◌||◌, ◌⊎◌, List, [], ℕ, suc, ◌+◌, ◌-◌, ◌*◌, ◌<◌, leb, ltb, length, take, drop, replicate}
+use Rattle.std.specs.Prelude.{◌≡◌, Bool, true, false, not, ◌&&◌, ◌||◌, ◌⊎◌, List, [], ℕ, suc, ◌+◌, ◌-◌, ◌*◌, ◌<◌, leb, ltb, length, take, drop, replicate, Result, Ok, Err}
 use Rattle.base.specs.Seq.{cell}
 use Rattle.field.specs.Field.{add}
 use Rattle.params.specs.Nodes.{has, size, within, count}
 use Rattle.params.specs.Params.{slack_parts, working, reshaped}
 use Rattle.gates.specs.Gates.{encode_gate, decode_gate, delta_gate, update_gate, repair_gate, check_gate, view_gate, reconfigure_gate}
+use Rattle.gates.specs.Refusals as refusals
+use Rattle.gates.specs.declared.Refusal.{Refusal}
 use Rattle.params.specs.declared.Params.{Params}
 use Rattle.params.specs.declared.Shape.{Shape}
 use Rattle.serials.specs.Serials.{takes, highest, Stamped}
 use Rattle.subsets.specs.Order.{before, earlier}
 use Rattle.code.specs.Code.{Parts, block, Pair, Gives, used}
 use Rattle.code.specs.declared.Blame.{Blame}
-use Rattle.code.specs.declared.Verdict.{Verdict}
-use Rattle.code.specs.declared.Verdict.TheVariants.{Refused, Blamed}
+use Rattle.code.specs.Verdict.{Verdict, Refused, Blamed}
 
 -- A call answers its gate's number; with 0 it is served, with any other it is refused.
 pub record Post (gate answer : ℕ) (WhenServed WhenRefused : Type 0) : Type 0 where
@@ -177,6 +178,11 @@ number (Blamed blame) = 0
 abbrev pub CheckPost : Params → List ℕ → ℕ → Verdict → Type 0
 CheckPost a codeword budget (Refused q) = (q ≡ check_gate a (length codeword)) × (q ≡ 0 → ⊥)
 CheckPost a codeword budget (Blamed blame) = (check_gate a (length codeword) ≡ 0) × Blames a codeword budget blame
+
+-- The verdict that check's result is.
+abbrev pub verdict : Result Blame Refusal → Verdict
+verdict (Ok blame) = Blamed blame
+verdict (Err q) = Refused (refusals.number q)
 
 -- ---- "View: the part of the record that is trap i's block, returned as a part of the lent record. A refused view is a part of length 0. The view returns
 -- the part alone; a second call on the same arguments gives its gate number."

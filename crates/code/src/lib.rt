@@ -38,11 +38,3 @@ pub struct Blame {
     // how far the set's size may be above the smallest
     pub distance: usize,
 }
-
-// What `check` answers: a refused one its number alone.
-#[derive(Clone, Copy)]
-pub enum Verdict {
-    // The first question whose answer is no.
-    Refused(u32),
-    Blamed(Blame),
-}

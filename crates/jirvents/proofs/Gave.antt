@@ -10,7 +10,7 @@ use Rattle.gates.specs.Valid.{ViewAccepted}
 use Rattle.params.specs.declared.Params.{Params}
 use Rattle.code.specs.Calls.{CheckPost}
 use Rattle.code.specs.declared.Blame.{Blame}
-use Rattle.code.specs.declared.Verdict.TheVariants.{Refused, Blamed}
+use Rattle.code.specs.Verdict.{Refused, Blamed}
 use Rattle.jirvents.specs.Exports.{CheckGave, ViewGave}
 
 pub check-refused : (a : Params) (codeword : List ℕ) (budget set tried distance q : ℕ) → CheckPost a codeword budget (Refused q)

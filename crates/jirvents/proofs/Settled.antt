@@ -9,8 +9,7 @@ use Rattle.matrix.specs.Invert.{column_number}
 use Rattle.matrix.specs.Invert as matrix
 use Rattle.matrix.proofs.Settled.{invert-once}
 use Rattle.code.specs.Calls.{number}
-use Rattle.code.specs.declared.Verdict.{Verdict}
-use Rattle.code.specs.declared.Verdict.TheVariants.{Refused, Blamed}
+use Rattle.code.specs.Verdict.{Verdict, Refused, Blamed}
 use Rattle.code.proofs.Blaming.{check-once}
 use Rattle.jirvents.specs.Exports.{Gave, CheckWrote, CheckGave, ViewGave, InvertGave}
 

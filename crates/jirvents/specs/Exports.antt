@@ -7,8 +7,7 @@ use Rattle.matrix.specs.Invert.{InvertPost, column_number}
 use Rattle.matrix.specs.Invert as matrix
 use Rattle.matrix.specs.Inversion.{Inversion}
 use Rattle.code.specs.Calls.{CheckPost, ViewPost, number}
-use Rattle.code.specs.declared.Verdict.{Verdict}
-use Rattle.code.specs.declared.Verdict.TheVariants.{Refused, Blamed}
+use Rattle.code.specs.Verdict.{Verdict, Refused, Blamed}
 
 -- "An arrangement is k, r, w, n, B", from its five numbers ..
 abbrev pub params : ℕ → ℕ → ℕ → ℕ → ℕ → Params

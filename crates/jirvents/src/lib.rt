@@ -8,7 +8,6 @@ ghost use Rattle.code.specs.Calls.{EncodePost, DecodePost, DeltaPost, UpdatePost
 ghost use Rattle.jirvents.specs.Exports.{params, shape, CheckGave, ViewGave, InvertGave};
 
 use checking::check;
-use code::Verdict;
 use decoding::decode;
 use encoding::encode;
 use gates::Refusal;
@@ -191,15 +190,14 @@ pub extern "C" fn jirvents_check(
 ) -> u32
     ensures { CheckGave (params k r w n b) codeword.now budget set.old tried.old distance.old result set.new tried.new distance.new }
 {
-    let verdict = check(Params { k, r, w, n, b }, codeword, budget);
-    match verdict {
-        Verdict::Refused(number) => number,
-        Verdict::Blamed(blame) => {
+    match check(Params { k, r, w, n, b }, codeword, budget) {
+        Ok(blame) => {
             *set = blame.set.0;
             *tried = blame.tried;
             *distance = blame.distance;
             0
         }
+        Err(refusal) => u32::from(refusal),
     }
 }
 

@@ -16,7 +16,7 @@ use Rattle.subsets.specs.Order.{before, how_many, earlier}
 use Rattle.code.specs.Code.{point, block}
 use Rattle.code.specs.Calls.{CheckPost}
 use Rattle.code.specs.declared.Blame.{Blame}
-use Rattle.code.specs.declared.Verdict.TheVariants.{Blamed}
+use Rattle.code.specs.Verdict.{Blamed}
 use Rattle.code.proofs.Serving.{Same}
 use Rattle.ledger.proofs.Computed.{bytes, same}
 use Rattle.ledger.proofs.Figures.{spare}

@@ -29,7 +29,7 @@ use Rattle.serials.proofs.Laws.{stamped-by}
 use Rattle.subsets.specs.Order.{before, earlier}
 use Rattle.code.specs.Code.{Parts, block, Gives, used}
 use Rattle.code.specs.Calls.{Post, EncodePost, DecodePost, Vanishes, DeltaPost, UpdatePost, RepairPost, writes, ReconfigurePost, Serves, NoneBefore, CheckPost}
-use Rattle.code.specs.declared.Verdict.TheVariants.{Blamed}
+use Rattle.code.specs.Verdict.{Blamed}
 use Rattle.code.proofs.Serving.{lowest_outside, outside-reads, outside-lowest, serves_by}
 
 -- ---- lists of tests

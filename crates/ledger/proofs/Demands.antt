@@ -22,8 +22,7 @@ use Rattle.params.specs.declared.Params.{Params}
 use Rattle.params.specs.declared.Shape.{Shape}
 use Rattle.gates.specs.Gates.{encode_gate, decode_gate, delta_gate, update_gate, repair_gate, check_gate, view_gate, reconfigure_gate, damage_gate}
 use Rattle.code.specs.declared.Blame.{Blame}
-use Rattle.code.specs.declared.Verdict.{Verdict}
-use Rattle.code.specs.declared.Verdict.TheVariants.{Blamed}
+use Rattle.code.specs.Verdict.{Verdict, Blamed}
 use Rattle.subsets.specs.Order.{earlier}
 use Rattle.code.specs.Code.{Parts, Pair, Gives, used}
 use Rattle.serials.specs.Serials.{Words32, Stamped}

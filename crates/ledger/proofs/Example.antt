@@ -19,7 +19,7 @@ use Rattle.serials.specs.Serials.{highest}
 use Rattle.subsets.specs.Order.{before, how_many, earlier}
 use Rattle.code.specs.Code.{point, block}
 use Rattle.code.specs.Calls.{Post, Unwritten}
-use Rattle.code.specs.declared.Verdict.TheVariants.{Refused, Blamed}
+use Rattle.code.specs.Verdict.{Refused, Blamed}
 use Rattle.ledger.specs.Ledger.{Held, begun, Sends, no_sends, sending, Machine, opened, held, other, encode, update, repair, reconfigure, decode, delta}
 use Rattle.ledger.specs.Ledger.{check, view, Call, Event, call, damage, RecordInForce, in_force, damaged_word, encoded, updated, repaired, reconfigured}
 use Rattle.ledger.specs.Ledger.{decoded, differed, checked, viewed, damaged, Closed, Run, done, more, History, Reading}

@@ -20,7 +20,7 @@ use Rattle.serials.specs.Serials.{highest}
 use Rattle.subsets.specs.Order.{before, how_many, earlier}
 use Rattle.code.specs.Code.{point, block}
 use Rattle.code.specs.Calls.{EncodePost, DecodePost, DeltaPost, UpdatePost, RepairPost, ReconfigurePost, CheckPost}
-use Rattle.code.specs.declared.Verdict.TheVariants.{Blamed}
+use Rattle.code.specs.Verdict.{Blamed}
 use Rattle.ledger.proofs.Computed.{encode-by, decode-by, delta-by, update-by, repair-by, reconfigure-by, Against, differing, found-by, stopped_by}
 
 pub data Row : Type 0 where

@@ -10,7 +10,7 @@ use Rattle.params.specs.declared.Params.{Params}
 use Rattle.params.specs.declared.Shape.{Shape}
 use Rattle.serials.specs.Serials.{Words32}
 use Rattle.code.specs.Calls.{EncodePost, DecodePost, DeltaPost, UpdatePost, RepairPost, CheckPost, ViewPost, ReconfigurePost, number}
-use Rattle.code.specs.declared.Verdict.{Verdict}
+use Rattle.code.specs.Verdict.{Verdict}
 
 -- ---- the running system and the machine
 

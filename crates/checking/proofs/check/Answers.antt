@@ -14,7 +14,7 @@ use Rattle.checking.proofs.check.Goals.{After-working}
 module _ (c : After-working) where
   ok : Checkable c.args.a (length c.args.codeword.now)
   ok =
-      let accepted = (check-accepted _ _).0 (sym c.in_default.ensures) in
+      let accepted = (check-accepted _ _).0 (sym c.in_ok-check_gate.ensures) in
       record { valid = accepted.valid; codeword_length = accepted.codeword_length }
 
   exact : c.working.result ≡ working c.args.a
