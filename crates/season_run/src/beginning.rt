@@ -1,7 +1,7 @@
 // The set-up, which prints first.
 ghost use Rattle.std.specs.Prelude.{◌≡◌, Ok};
 ghost use Rattle.season_file.specs.File.{opening_of};
-ghost use Rattle.season_run.specs.Season.{Opens, Room, Turned, BeginPost};
+ghost use Rattle.season_run.specs.Season.{Opens, Turned, BeginPost};
 
 use super::{State, Turn, idle, last_line};
 use encoding::encode;
@@ -15,21 +15,25 @@ use season_lines::write_line;
 pub fn begin(input: &[u8], codeword: &mut [u8], serials: &mut [u32], line: &mut [u8]) -> Turn
     ensures { BeginPost input.now codeword.old serials.old line.old result codeword.new serials.new line.new }
 {
-    if codeword.len() != 32768 {
+    let Some(codeword) = codeword.as_mut_array() else {
         return idle();
-    }
-    if serials.len() != 32 {
+    };
+    let Some(serials) = serials.as_mut_array() else {
         return idle();
-    }
-    if line.len() != 65600 {
+    };
+    let Some(line) = line.as_mut_array() else {
         return idle();
-    }
+    };
     begin_within(input, codeword, serials, line)
 }
 
 // The same where the buffers are as they should be.
-fn begin_within(input: &[u8], codeword: &mut [u8], serials: &mut [u32], line: &mut [u8]) -> Turn
-    requires { Room codeword.old serials.old line.old }
+fn begin_within(
+    input: &[u8],
+    codeword: &mut [u8; 32768],
+    serials: &mut [u32; 32],
+    line: &mut [u8; 65600],
+) -> Turn
     ensures { Turned (Opens input.now) codeword.old serials.old line.old result codeword.new serials.new line.new }
 {
     match open(input) {
@@ -42,12 +46,11 @@ fn begin_within(input: &[u8], codeword: &mut [u8], serials: &mut [u32], line: &m
 fn set_up(
     input: &[u8],
     header: Header,
-    codeword: &mut [u8],
-    serials: &mut [u32],
-    line: &mut [u8],
+    codeword: &mut [u8; 32768],
+    serials: &mut [u32; 32],
+    line: &mut [u8; 65600],
 ) -> Turn
     requires input_value { opening_of input.now ≡ Ok header }
-    requires room { Room codeword.old serials.old line.old }
     ensures { Turned (Opens input.now) codeword.old serials.old line.old result codeword.new serials.new line.new }
 {
     let params = header.params;

@@ -3,7 +3,7 @@ ghost use Rattle.std.specs.Prelude.{◌≡◌, List, ℕ, ◌≤◌, ◌<◌, le
 ghost use Rattle.gates.specs.Refusals.{answer};
 ghost use Rattle.season_file.specs.File.{item_at};
 ghost use Rattle.season_effects.specs.Effects.{effect_of};
-ghost use Rattle.season_run.specs.Season.{Goes, place_of, Room, Turned, Standing, TurnPost};
+ghost use Rattle.season_run.specs.Season.{Goes, place_of, Turned, Standing, TurnPost};
 
 use super::{State, Turn, idle, last_line};
 use gates::Refusal;
@@ -24,15 +24,15 @@ pub fn turn(
 ) -> Turn
     ensures { TurnPost input.now s codeword.old serials.old line.old result codeword.new serials.new line.new }
 {
-    if codeword.len() != 32768 {
+    let Some(codeword) = codeword.as_mut_array() else {
         return idle();
-    }
-    if serials.len() != 32 {
+    };
+    let Some(serials) = serials.as_mut_array() else {
         return idle();
-    }
-    if line.len() != 65600 {
+    };
+    let Some(line) = line.as_mut_array() else {
         return idle();
-    }
+    };
     if record_length(s.params).is_none() {
         return idle();
     }
@@ -46,11 +46,10 @@ pub fn turn(
 fn turn_within(
     input: &[u8],
     s: State,
-    codeword: &mut [u8],
-    serials: &mut [u32],
-    line: &mut [u8],
+    codeword: &mut [u8; 32768],
+    serials: &mut [u32; 32],
+    line: &mut [u8; 65600],
 ) -> Turn
-    requires room { Room codeword.old serials.old line.old }
     requires standing { Standing s }
     ensures { Turned (Goes input.now (place_of s codeword.old serials.old)) codeword.old serials.old line.old result codeword.new serials.new line.new }
 {
@@ -75,45 +74,24 @@ fn finish(input: &[u8], s: State, line: &mut [u8]) -> Turn
     last_line(input, line, s.number, 0, u32::from(FileFault::LeftOver))
 }
 
-// The event is whole: makes room for a message or a new record, and lends it.
+// The event is whole: its answer and effect, with room for a message or a new record, and its line. Its number is the serial.
 fn try_event(
     input: &[u8],
     s: State,
     found: Found,
-    codeword: &mut [u8],
-    serials: &mut [u32],
-    line: &mut [u8],
+    codeword: &mut [u8; 32768],
+    serials: &mut [u32; 32],
+    line: &mut [u8; 65600],
 ) -> Turn
-    requires room { Room codeword.old serials.old line.old }
     requires standing { Standing s }
     requires left_nonzero { 0 < s.left }
     requires at_value { item_at s.params input.now s.at ≡ Ok found }
     ensures { Turned (Goes input.now (place_of s codeword.old serials.old)) codeword.old serials.old line.old result codeword.new serials.new line.new }
 {
     let mut room = [0u8; 32768];
-    try_within(input, s, found, codeword, serials, line, &mut room)
-}
-
-// Its answer and effect, its line. Its number is the serial.
-fn try_within(
-    input: &[u8],
-    s: State,
-    found: Found,
-    codeword: &mut [u8],
-    serials: &mut [u32],
-    line: &mut [u8],
-    room: &mut [u8],
-) -> Turn
-    requires room { Room codeword.old serials.old line.old }
-    requires standing { Standing s }
-    requires left_nonzero { 0 < s.left }
-    requires at_value { item_at s.params input.now s.at ≡ Ok found }
-    requires room_len { length room.old ≡ 32768 }
-    ensures { Turned (Goes input.now (place_of s codeword.old serials.old)) codeword.old serials.old line.old result codeword.new serials.new line.new }
-{
     let event = found.event;
     let serial = s.number as u32;
-    let taken = take_effect(s.params, input, serial, event, codeword, serials, room);
+    let taken = take_effect(s.params, input, serial, event, codeword, serials, &mut room);
     let (answer, effect) = told(s.params, taken);
     let written = write_line(
         line,

@@ -8,10 +8,7 @@ use Rattle.season_run.proofs.Turns.{ended-turn}
 use Rattle.season_run.proofs.beginning.begin_within.Goals as goal
 
 pub set_up-requires : goal.set_up-requires
-set_up-requires c = record {
-  input_value = sym c.«open».ensures ∙ c.in-Ok.is;
-  room = c.requires;
-}
+set_up-requires c = record { input_value = sym c.«open».ensures ∙ c.in-Ok.is }
 
 pub returns-in-Err : goal.returns-in-Err
 returns-in-Err c =

@@ -15,7 +15,6 @@ pub try_event-requires : goal.try_event-requires
 try_event-requires c =
     let s = c in
     record {
-      room = s.requires.room;
       standing = s.requires.standing;
       left_nonzero = omega (arith, c.if-s-eq0.false);
       at_value = sym c.parse.ensures ∙ c.in-Ok.is;
