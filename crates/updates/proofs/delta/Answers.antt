@@ -1,5 +1,5 @@
 -- The gate's number; where it is 0, the rows go one after the other to a cleared buffer. Assumes nothing.
-use mathlib.Core.Path.{sym, ◌∙◌}
+use mathlib.Core.Path.{sym}
 use native.Mathlib.Omega.{arith}
 use borrow.Author.Rules.{rules}
 use lib.ListN.{length}
