@@ -8,6 +8,7 @@ use tiled_products::{add_short, add_tiled};
 
 // A matrix of coefficients times the blocks of src at the given places: row i of the product is added to block targets[i] of out. Blocks have b bytes, and row i of
 // the coefficients begins at i·stride. Where the product does not fit the slices, nothing is written: the products in tiles refuse it.
+// The parameters are no struct: tried, the proof did not close, since of a slice in a struct that is lent to add_tiles it is not known that its bytes are below 256.
 pub fn add_product(
     out: &mut [u8],
     targets: &[u8],

@@ -82,7 +82,7 @@ fn add_columns(sum: &mut [u8], b: usize, at: usize, src: &[u8], places: &[u8], c
     }
 }
 
-// dst += c·src
+// dst += c·src. By index: of what a zip of iter_mut writes, a proof knows nothing afterwards.
 fn add_multiple(dst: &mut [u8], src: &[u8], c: u8)
     requires { length dst.old ≡ length src.now }
     ensures { dst.new ≡ plus_multiple dst.old c src.now }
