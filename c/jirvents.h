@@ -26,8 +26,8 @@
  * A slice is a pointer and a length, which counts bytes, and for serials numbers. Its pointer must be valid for that many (and not null, also for length 0),
  * that of serials also aligned for uint32_t, and slices that are written must not overlap others. The pointers set, tried, distance, start and column must be
  * valid, aligned, not null, and apart from every slice and from each other. No function allocates, keeps a pointer or has any state. Until a function returns,
- * no other thread may write what it was lent or use what it writes; calls on buffers of their own may run at once. Each takes its room on the stack: up to 62
- * kB (repair), 56 (check), 55 (reconfigure), 54 (encode), 22 (update, delta), 19 (decode), 3 (invert). */
+ * no other thread may write what it was lent or use what it writes; calls on buffers of their own may run at once. Each takes its room on the stack: up to 55
+ * kB (check), 54 (reconfigure), 53 (repair), 51 (encode), 21 (update, delta), 19 (decode), 3 (invert). */
 #ifndef JIRVENTS_H
 #define JIRVENTS_H
 

@@ -41,7 +41,7 @@
 //! written. No question is put about this.
 //!
 //! No call allocates or keeps any state, so calls on buffers of their own may run
-//! in several threads at once. Each takes its room on the stack, up to 62 kB.
+//! in several threads at once. Each takes its room on the stack, up to 55 kB.
 //!
 //! ```
 //! use jirvents::{check, decode, encode, repair, update, view, Params};
