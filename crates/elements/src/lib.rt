@@ -15,7 +15,7 @@ impl Elem {
     pub const ZERO: Elem = Elem(0);
 
     pub const ONE: Elem = Elem(1);
-    // How many elements are not zero.
+    // How many elements are not zero: one of the constants that document 01 asks for ("Forms we want to see"); no code here reads it.
     pub const ORDER: usize = 255;
 
     // The inverse of zero is zero. Any other element is a power of 02, and so is its inverse.

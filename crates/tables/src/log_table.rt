@@ -1,4 +1,4 @@
-// The exponent of each nonzero value as a power of 02. The entry of 00, which is no power, is not used.
+// The exponent of each nonzero value as a power of 02. The entry of 00, which is no power, is 0: that it is below 255 is all that is used of it.
 pub const LOGS: [u8; 256] = [
     0, 0, 1, 25, 2, 50, 26, 198, 3, 223, 51, 238, 27, 104, 199, 75, 4, 100, 224, 14, 52, 141, 239,
     129, 28, 193, 105, 248, 200, 8, 76, 113, 5, 138, 101, 47, 225, 36, 15, 33, 53, 147, 142, 218,

@@ -1,4 +1,4 @@
-// Document 01's view: one node's block as a part of the lent codeword, and the number that goes with it. No byte is written or computed with.
+// Document 01's view: one node's block as a part of the lent codeword, and whether it is refused and why. No byte is written or computed with.
 #![tactic(auto)]
 
 ghost use Rattle.std.specs.Prelude.{◌≡◌, length};
@@ -22,7 +22,7 @@ pub fn view(a: Params, codeword: &[u8], node: Node) -> &[u8]
     &codeword[start..end]
 }
 
-// The number that goes with the view of the same arguments.
+// Whether the view of the same arguments is refused, and why.
 pub fn view_status(a: Params, codeword: &[u8], node: Node) -> Result<(), Refusal>
     ensures { answer result ≡ view_gate a (length codeword.now) node.0 }
 {
