@@ -14,7 +14,8 @@ use params::Params;
 use searching::search;
 
 // The first set that serves, among as many as the budget allows; else all nodes behind the first q, and how far their number may be above the smallest. Room for
-// the blocks of the nodes behind the first ones is no more than is wanted, since it is cleared at each call.
+// the blocks of the nodes behind the first ones is of about the size that is wanted, since it is cleared at each call.
+// (A ladder of its own: a function over any closure would have to state for it what this contract says in its own words.)
 pub fn check(a: Params, codeword: &[u8], budget: usize) -> Result<Blame, Refusal>
     ensures { CheckPost a codeword.now budget (verdict result) }
 {
@@ -30,7 +31,7 @@ pub fn check(a: Params, codeword: &[u8], budget: usize) -> Result<Blame, Refusal
     Ok(blame)
 }
 
-// Kept apart, so that a call takes stack for its own room alone.
+// Kept apart, so that a call takes stack for its own room alone. (Each such function asks that ROOM is bounded: without it the array is not known to fit the memory.)
 #[inline(never)]
 fn search_in<const ROOM: usize>(a: Params, codeword: &[u8], budget: usize) -> Blame
     requires searchable { Searchable a (length codeword.now) ROOM }

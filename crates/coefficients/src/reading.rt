@@ -3,7 +3,6 @@
 // the points x, is multiplied out once as far as they go; for each point it is divided by the point's own z - x, from the lowest coefficient up, and by the value
 // that the quotient, times z, has at the point. That takes a number of steps that grows with the square of the number of points, where elimination takes its
 // cube.
-// A point is told by its exponent.
 ghost use Rattle.std.specs.Prelude.{◌≡◌, ℕ, ◌*◌, ◌<◌, length, get_or};
 ghost use Rattle.field.specs.Field.{pow};
 ghost use Rattle.interpolation.specs.Polynomial.{Points};
@@ -44,6 +43,7 @@ fn widen(x: Exponent, p: &mut [u8])
     requires { 0 < length p.old }
     ensures { Widened (pow 2 x.value) p.old p.new }
 {
+    // by a range: each entry is made of itself and the one before
     for j in (1..p.len()).rev() {
         p[j] = p[j - 1] ^ x.times(p[j]);
     }
@@ -65,6 +65,7 @@ impl Product<'_> {
         ensures { BasisRows (length self.now.lowest.now) self.now.points.now (length self.now.points.now) rows.new }
     {
         let first = Exponent::of(self.lowest[0]);
+        // by a range: column i is no slice of rows
         for i in 0..self.points.len() {
             self.fill_column(i, first, rows);
         }
@@ -84,6 +85,7 @@ impl Product<'_> {
         let scale = -anchors.apart_exponent(points[i]);
         let mut lead = (first + scale + back).power();
         rows[i] = lead;
+        // by a range: entry j of the column stands in row j, and what is written through chunks_exact_mut no proof knows
         for j in 1..lowest.len() {
             lead = back.times(lead ^ scale.times(lowest[j]));
             rows[j * points.len() + i] = lead;

@@ -33,6 +33,8 @@ pub fn encode(
 }
 
 // Makes room for message and slack side by side, about as much as is wanted, since room is cleared at each call.
+// (A ladder of its own: a function over any closure would have to state for it what this contract says in its own words.)
+// (What the three functions from here on ask for is no struct: each is a step of the one before, and the last would take the struct apart again.)
 fn encode_blocks(a: Params, message: &[u8], slack: &[u8], codeword: &mut [u8])
     requires { Encodable a (length message.now) (length slack.now) (length codeword.old) }
     ensures { Encoded a message.now slack.now codeword.new }
@@ -74,7 +76,7 @@ fn encode_joined(a: Params, message: &[u8], slack: &[u8], parts: &mut [u8], code
     encode_parts(a, &parts[..last], codeword);
 }
 
-// The message is the first k parts, the slack the others. Here room is made for the powers, again no more than is wanted.
+// The message is the first k parts, the slack the others. Here room is made for the powers, again about as much as is wanted.
 fn encode_parts(a: Params, parts: &[u8], codeword: &mut [u8])
     requires { Raisable a (length parts.now) (length codeword.old) }
     ensures { Encoded a (take (a.k * a.b) parts.now) (drop (a.k * a.b) parts.now) codeword.new }

@@ -65,7 +65,7 @@ impl Refusal {
     }
 }
 
-// One question: this refusal where the answer is no.
+// One question: this refusal where the answer is no. (Tests of one question are joined by & and not by &&: all are cheap, and none is a branch of its own.)
 fn put(yes: bool, no: Refusal) -> Result<(), Refusal>
     ensures { answer result ≡ first_no (ask yes (number no) ∷ []) }
 {

@@ -1,5 +1,5 @@
 // The library for C and Rust: each call on plain numbers and slices, under a name of its own. A slice is a pointer and a length there.
-// Answers are document 01's numbers.
+// Answers are document 01's numbers. (Numbers, lengths and pointers, and no Params, Option or Result: the C interface.)
 #![tactic(auto)]
 
 ghost use Rattle.std.specs.Prelude.{◌≡◌};

@@ -30,7 +30,8 @@ pub fn repair(
     Ok(())
 }
 
-// Makes room for the lost blocks, no more than is wanted, since room is cleared at each call.
+// Makes room for the lost blocks, of about the size that is wanted, since room is cleared at each call.
+// (A ladder of its own: a function over any closure would have to state for it what this contract says in its own words.)
 fn repair_blocks(a: Params, codeword: &mut [u8], from: NodeSet, lost: NodeSet)
     requires { Rebuildable a from.0 lost.0 (length codeword.old) }
     ensures { Rebuilt a from.0 lost.0 codeword.old codeword.new }

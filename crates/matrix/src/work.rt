@@ -33,6 +33,7 @@ impl Work {
         requires { (length m.now ≡ self.old.side * self.old.side) × ((i k : ℕ) → grid self.old.rows i k ≡ 0) }
         ensures { (self.new.side ≡ self.old.side) × Loaded self.old.side m.now self.new.rows }
     {
+        // not zipped with rows.iter_mut(): what goes through a zip of iter_mut, no proof knows afterwards
         for (i, entries) in m.chunks_exact(self.side).enumerate() {
             let rows = &mut self.rows;
             load_row(&mut rows[i], i, entries);
@@ -110,6 +111,7 @@ impl Work {
         ensures { (self.new.side ≡ self.old.side) × Reduced self.old.side (j + 1) self.old.rows self.new.rows }
     {
         let row = self.rows[j];
+        // by a range: add_multiple takes the whole matrix, so its rows cannot be lent to the loop
         for i in 0..self.side {
             if i != j {
                 let c = self.rows[i][j];

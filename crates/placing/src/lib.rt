@@ -19,6 +19,8 @@ pub fn has_blocks(length: usize, set: NodeSet, b: usize) -> bool
     set.within(length / b)
 }
 
+// (The walks of this file begin alike, but each test has its own answer where it fails, and the room for the places has to stand in the function that uses it.)
+
 // The blocks of the set's nodes, in rising order, become fresh's. Where codeword has no block for one of them, or fresh has not just one for each, nothing is
 // written.
 pub fn put_blocks(codeword: &mut [u8], set: NodeSet, fresh: &[u8], b: usize)

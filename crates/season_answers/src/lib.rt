@@ -46,8 +46,6 @@ pub fn record_length(a: Params) -> Option<usize>
     ensures { RecordLength a result }
 {
     let length = a.n.saturating_mul(a.b);
-    if check_gate(a, length).is_err() {
-        return None;
-    }
+    check_gate(a, length).ok()?;
     Some(length)
 }

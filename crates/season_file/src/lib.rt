@@ -55,6 +55,7 @@ pub struct ReconfigureFields {
     pub message: Span,
 }
 
+// An event and its fields.
 #[derive(Clone, Copy)]
 pub enum Event {
     Update(UpdateFields),
@@ -65,6 +66,7 @@ pub enum Event {
 }
 
 impl Event {
+    // Its kind, whatever its fields are.
     pub fn kind(self) -> Kind
         ensures { code_of result ≡ kind_of self }
     {
@@ -89,7 +91,7 @@ pub enum Kind {
 }
 
 // A byte that is no event's kind.
-#[derive(Clone, Copy, PartialEq, Eq)]
+#[derive(Clone, Copy, Debug, PartialEq, Eq)]
 pub struct UnknownKind(pub u8);
 
 impl TryFrom<u8> for Kind {
@@ -125,7 +127,7 @@ pub struct Found {
 }
 
 // What ends a run at a file, by the number that its line tells.
-#[derive(Clone, Copy, PartialEq, Eq)]
+#[derive(Clone, Copy, Debug, PartialEq, Eq)]
 pub enum FileFault {
     FirstCount = 20,
     EndsEarly,
@@ -141,8 +143,8 @@ impl From<FileFault> for u32 {
     }
 }
 
-// A file fault at an event, and the event's kind as its line tells it: its byte, or 0 if that is unread.
-#[derive(Clone, Copy, PartialEq, Eq)]
+// A file fault at an event, and the event's kind as its line tells it: its byte, or 0 if that is unread. (A byte and no Option<Kind>: an unknown kind is told by its byte.)
+#[derive(Clone, Copy, Debug, PartialEq, Eq)]
 pub struct Fault {
     pub kind: u8,
     pub fault: FileFault,
@@ -159,7 +161,7 @@ impl From<UnknownKind> for Fault {
     }
 }
 
-// The first three sections and the count of events.
+// The first three sections and the count of events. (Spans here too, as in an Event: the header holds no reference to the input.)
 #[derive(Clone, Copy)]
 pub struct Header {
     pub params: Params,

@@ -174,6 +174,7 @@ fn event_at(input: &[u8], at: usize, kind: Kind, count: usize) -> Event
     }
 }
 
+// A rearrangement's fields.
 fn reconfigure_at(input: &[u8], at: usize, count: usize) -> ReconfigureFields
     requires { at + 16 ≤ length input.now }
     ensures { (a : Params) → count ≡ following a input.now at 5 → Reconfigure result ≡ event_at a input.now at 5 }
