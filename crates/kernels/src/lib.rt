@@ -8,7 +8,8 @@ use tiled_products::{add_short, add_tiled};
 
 // A matrix of coefficients times the blocks of src at the given places: row i of the product is added to block targets[i] of out. Blocks have b bytes, and row i of
 // the coefficients begins at i·stride. Where the product does not fit the slices, nothing is written: the products in tiles refuse it.
-// The parameters are no struct: tried, the proof did not close, since of a slice in a struct that is lent to add_tiles it is not known that its bytes are below 256.
+// The parameters are no struct: tried; add_tiles wants that the coefficients are bytes, which a slice behind a lent struct does not tell and a public function may not ask;
+// and its five callers would write as many fields as they write arguments now.
 pub fn add_product(
     out: &mut [u8],
     targets: &[u8],

@@ -1,4 +1,4 @@
-// A matrix of coefficients times blocks: what it is, when it fits its slices, and the product added row by row.
+// A matrix of coefficients times blocks: what it is, when it fits its slices, and the product added row by row. (No struct of a product's parameters: see kernels::add_product.)
 #![tactic(auto)]
 
 ghost use Rattle.std.specs.Prelude.{◌≡◌, ◌+◌, ◌≤◌, ◌<◌, length};
@@ -49,6 +49,7 @@ fn accumulate(dst: &mut [u8], src: &[u8], places: &[u8], coeffs: &[u8])
     ensures { Accumulated (length dst.old) 0 src.now places.now coeffs.now dst.old dst.new }
 {
     let b = dst.len();
+    // by step_by: what goes through chunks_mut, no proof knows afterwards
     for at in (0..b).step_by(256) {
         let end = at + (b - at).min(256);
         add_stretch(&mut dst[at..end], b, at, src, places, coeffs);

@@ -1,6 +1,6 @@
 // A product in tiles of 64 or 16 bytes, by the bits of the coefficients: c·x is the sum of 02^s·x over the bits s that are 1 in c. Columns go in groups of at most five. The
 // sums of a group's tiles, one for each choice of them and so up to 32, are found once; then every row adds up, for each bit from the top, one sum of each group, and
-// doubles what it has before the next bit. Nothing branches on a coefficient.
+// doubles what it has before the next bit. Nothing branches on a coefficient. (No struct of a product's parameters: see kernels::add_product.)
 #![tactic(auto)]
 
 mod picked;

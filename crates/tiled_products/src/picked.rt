@@ -20,6 +20,7 @@ pub(crate) fn fill_picks(
     requires rows { Rows rows width stride (length coeffs.now) }
     ensures { Picked rows stride coeffs.now width groups size picks.old picks.new }
 {
+    // by a range: coeffs.chunks(stride) refuses a stride of 0, and its chunks are longer than a row where the stride exceeds the width
     for i in 0..rows {
         let row = i * stride;
         let end = row + width;
@@ -33,6 +34,7 @@ fn fill_row(picks: &mut [u8], groups: usize, size: usize, i: usize, coeffs: &[u8
     requires i_bound { (i < 32) × ((g : ℕ) → g < groups → g * 256 + i * 8 + 8 ≤ length picks.old) }
     ensures { RowPicked i size coeffs.now groups picks.old picks.new }
 {
+    // by a range: coeffs.chunks(size) refuses a size of 0, which no columns have
     for g in 0..groups {
         let j = g * size;
         let end = j + size.min(coeffs.len() - j);

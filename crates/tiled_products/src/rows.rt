@@ -90,16 +90,17 @@ fn add_row<const TILE: usize, const MOST: usize>(
         double_tile(&mut sum);
         add_picked::<TILE, MOST>(&mut sum, table, groups, picks, i * 8 + s);
     }
-    add_sum(dst, &sum);
+    add_sum::<TILE>(dst, &sum);
 }
 
 // dst += a row's sum, eight bytes at a time (request 2026-02 of document 02: a difference meets its block by words, never by add_block). Both arms do the same, but in the
-// first, that of a whole tile, the compiler knows how many words there are, and makes vectors of them.
-fn add_sum(dst: &mut [u8], sum: &[u8])
+// first, that of a whole tile, the number of words is a constant, so that the compiler makes vectors of them.
+fn add_sum<const TILE: usize>(dst: &mut [u8], sum: &[u8])
+    requires { length sum.now ≡ TILE }
     ensures { dst.new ≡ plus dst.old sum.now }
 {
-    if dst.len() == sum.len() {
-        add_words(dst, sum);
+    if dst.len() == TILE {
+        add_words(&mut dst[..TILE], &sum[..TILE]);
         return;
     }
     add_words(dst, sum);

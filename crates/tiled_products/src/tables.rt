@@ -26,6 +26,7 @@ pub(crate) fn fill_groups<const TILE: usize>(
     ensures { Tabled TILE b at w size src.now places.now groups table.old table.new }
 {
     let last = table.len();
+    // by a range: after chunks_mut no proof knows an entry, and places.chunks(size) refuses a size of 0, which no columns have
     for g in 0..groups {
         let j = g * size;
         let end = j + size.min(places.len() - j);
@@ -50,6 +51,7 @@ fn fill_group<const TILE: usize>(
 {
     clear(&mut table[0..TILE]);
     let mut half = 1;
+    // by a range and not places.iter().rev(): the invariant needs the index, and a reversed iterator has only what it gave
     for t in (0..places.len()).rev() {
         let start = usize::from(places[t]) * b + at;
         let end = start + w;

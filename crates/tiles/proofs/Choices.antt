@@ -23,7 +23,6 @@ use Rattle.blocks.specs.Bytes.{over}
 use Rattle.blocks.proofs.Laws.{plus-length, plus-at, over-length, over-at, over-past, over-same}
 use Rattle.picks.specs.Picks.{number}
 use Rattle.picks.proofs.Digits.{number-below, number-front}
-use Rattle.products.specs.Blocks.{Inside}
 use Rattle.products.proofs.Stretches.{stretch, length-stretch, stretch-at}
 use Rattle.tiles.specs.Tiling.{Grouped, columns, tile_at, Raised, Chosen, Tabled}
 use Rattle.tiles.proofs.Groups.{columns-size, columns-most}
@@ -189,12 +188,6 @@ module _ (t w : ℕ) (wt : w ≤ t) (x : ℕ → ℕ → ℕ) (old : List ℕ) w
 -- byte p of entry n of group g, in the whole table and in what is left from the group's own on
 in_group : (t g n p : ℕ) → (g * 32 + n) * t + p ≡ g * 32 * t + (n * t + p)
 in_group t g n p = omega (arith, add-mul (g * 32) n t)
-
--- the places of a group name blocks too
-pub group-inside : (b j r src : ℕ) (places : List ℕ) → j + r ≤ length places → Inside b places src → Inside b (stretch j r places) src
-group-inside b j r src places h f k hk =
-    let lt : k < r = omega (arith, length-stretch j r places h) in
-    subst⁻¹ (λ (q : ℕ). suc q * b ≤ src) (stretch-at j r places k lt) (f (j + k) (omega arith))
 
 module _ (t b at w size : ℕ) (src places old : List ℕ) where
   pub tabled-none : Tabled t b at w size src places 0 old old

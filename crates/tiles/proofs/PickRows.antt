@@ -1,5 +1,5 @@
 -- The picks of a row, group by group, and of all rows. Assumes nothing.
-use mathlib.Core.Path.{◌≡◌, refl, sym, ap, ◌∙◌}
+use mathlib.Core.Path.{◌≡◌, sym, ap, ◌∙◌}
 use mathlib.Core.List.{List}
 use mathlib.Core.Logic.{⊎_elim}
 use Prim.Native.Nat.{ℕ, ◌+◌, ◌-◌, ◌*◌, ◌≤◌, ◌<◌}
@@ -37,9 +37,6 @@ module _ (size : ℕ) (coeffs : List ℕ) (g n : ℕ) (old bytes : List ℕ) (si
       ∙ ap (λ (m : ℕ). number m (λ k. bit s (get_or coeffs (g * size + k) 0))) count
 
 -- ---- a row of picks
-
-pub row-none : (i size : ℕ) (coeffs l : List ℕ) → RowPicked i size coeffs 0 l l
-row-none i size coeffs l = record { same = refl; done = λ g s hg hs. absurd (omega arith); rest = λ g j s ne hs hj. refl }
 
 -- the picks of group g, written at their place
 module _ (i size : ℕ) (coeffs : List ℕ) (g at : ℕ) (old new bytes : List ℕ) (hi : i < 32) (ea : at ≡ g * 256 + i * 8) (room : at + 8 ≤ length new) (eight : length bytes ≡ 8)
@@ -80,9 +77,6 @@ module _ (i size : ℕ) (coeffs : List ℕ) (g at : ℕ) (old new bytes : List �
       }
 
 -- ---- the picks of all rows
-
-pub picked_none : (stride : ℕ) (coeffs : List ℕ) (n groups size : ℕ) (l : List ℕ) → Picked 0 stride coeffs n groups size l l
-picked_none stride coeffs n groups size l = record { same = refl; pick = λ g s i hg hs hi. absurd (omega arith) }
 
 pub picked_more : (i stride : ℕ) (coeffs : List ℕ) (n groups size : ℕ) (old new last : List ℕ) → i < 32 → i * stride + n ≤ length coeffs
     → RowPicked i size (row_of stride n i coeffs) groups new last → Picked i stride coeffs n groups size old new

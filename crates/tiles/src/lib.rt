@@ -19,6 +19,7 @@ pub fn double_tile(x: &mut [u8])
 
 // dst += src; a byte that src does not have counts as 00, as in add_block. Where the two are not as long as each other, add_block is lent a copy of src of 64 bytes, so that
 // with a dst of as many its loop has a constant length. More than 64 bytes are no tile, and are added as they are.
+// (It stays, though its one caller lends a tile of zeros: the crate exports it, and the edits long_part_cut and ragged_tile_one_byte_short stand on it.)
 pub fn add_part(dst: &mut [u8], src: &[u8])
     ensures { dst.new ≡ plus dst.old src.now }
 {
