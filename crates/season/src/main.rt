@@ -4,7 +4,6 @@
 
 ghost use Rattle.std.specs.Prelude.{◌≤◌, length, take, OnOk, is_ok};
 ghost use Rattle.std.specs.Io.KnownBytes.{Appends};
-ghost use Rattle.season_run.specs.Season.{Room};
 ghost use Rattle.season.specs.Loop.{Printed, HandedOver};
 
 use season_run::Turn;
@@ -52,12 +51,11 @@ fn run<W: Write>(input: &[u8], out: &mut W) -> io::Result<()>
 // (Printed), and that their lines are given to the writer, one after the other, where all were written (HandedOver).
 fn run_within<W: Write>(
     input: &[u8],
-    codeword: &mut [u8],
-    serials: &mut [u32],
-    line: &mut [u8],
+    codeword: &mut [u8; 32768],
+    serials: &mut [u32; 32],
+    line: &mut [u8; 65600],
     out: &mut W,
 ) -> io::Result<()>
-    requires { Room codeword.old serials.old line.old }
     ensures printed { Printed input.now codeword.old serials.old line.old (is_ok result) codeword.new serials.new line.new }
     ensures handed_over { OnOk result (HandedOver input.now (W.contents out.old) (W.contents out.new)) }
 {

@@ -1,4 +1,7 @@
 // The effect of an accepted event, by its kind.
+//
+// Ready, Accepted and Valid are clauses and no struct: Ready and Accepted speak of an event's kind and fields, so each kind would need a struct of its own, for one
+// function each, and would be no plainer.
 ghost use Rattle.std.specs.Prelude.{◌≡◌, List, ℕ, ◌*◌, length};
 ghost use Rattle.params.specs.Nodes.{size};
 ghost use Rattle.gates.specs.Valid.{Valid};

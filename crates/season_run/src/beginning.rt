@@ -3,7 +3,7 @@ ghost use Rattle.std.specs.Prelude.{◌≡◌, Ok};
 ghost use Rattle.season_file.specs.File.{opening_of};
 ghost use Rattle.season_run.specs.Season.{Opens, Turned, BeginPost};
 
-use super::{State, Turn, idle, last_line};
+use super::{State, Turn, in_room, last_line};
 use encoding::encode;
 use season_answers::record_length;
 use season_file::Header;
@@ -15,20 +15,11 @@ use season_lines::write_line;
 pub fn begin(input: &[u8], codeword: &mut [u8], serials: &mut [u32], line: &mut [u8]) -> Turn
     ensures { BeginPost input.now codeword.old serials.old line.old result codeword.new serials.new line.new }
 {
-    let Some(codeword) = codeword.as_mut_array() else {
-        return idle();
-    };
-    let Some(serials) = serials.as_mut_array() else {
-        return idle();
-    };
-    let Some(line) = line.as_mut_array() else {
-        return idle();
-    };
-    begin_within(input, codeword, serials, line)
+    in_room(input, None, codeword, serials, line)
 }
 
 // The same where the buffers are as they should be.
-fn begin_within(
+pub(crate) fn begin_within(
     input: &[u8],
     codeword: &mut [u8; 32768],
     serials: &mut [u32; 32],

@@ -5,13 +5,18 @@
 pub mod beginning;
 pub mod turning;
 
-ghost use Rattle.std.specs.Prelude.{◌≡◌, ◌≤◌, length, None};
+ghost use Rattle.std.specs.Prelude.{◌≡◌, None, MatchOption};
+ghost use Rattle.base.specs.Decided.{Decided};
+ghost use Rattle.season_run.specs.Season.{Standing, BeginPost, TurnPost};
 ghost use Rattle.season_run.specs.Turning.{Ended};
 
+use beginning::begin_within;
 use params::Params;
+use season_answers::record_length;
 use season_lines::write_line;
+use turning::turn_within;
 
-// Where a run stands between two events.
+// Where a run stands between two events. Standing is no ghost field of it: `turn` takes any state, and is idle from one that is not standing (TurnPost).
 #[derive(Clone, Copy)]
 pub struct State {
     // the parameters in force
@@ -22,6 +27,15 @@ pub struct State {
     pub left: usize,
     // where the next event begins in the input
     pub at: usize,
+}
+
+impl State {
+    // Whether a turn can start from here: valid parameters in force, and an event number that can be counted on.
+    fn is_standing(self) -> bool
+        ensures { Decided (Standing self) result }
+    {
+        record_length(self.params).is_some() && self.number <= 65536
+    }
 }
 
 // What a turn gives back: how many bytes of the line it wrote, and from where the run goes on, if it does.
@@ -42,13 +56,41 @@ fn idle() -> Turn
 }
 
 // The run ends after a line without message.
-fn last_line(input: &[u8], line: &mut [u8], number: usize, kind: u8, answer: u32) -> Turn
-    requires { 64 ≤ length line.old }
+fn last_line(input: &[u8], line: &mut [u8; 65600], number: usize, kind: u8, answer: u32) -> Turn
     ensures { Ended number kind answer line.old result line.new }
 {
     let written = write_line(line, number, kind, answer, &input[..0]);
     Turn {
         written,
         next: None,
+    }
+}
+
+// The set-up, or an event from a state, in buffers of the lengths that they ask, which are arrays from here on. With other lengths, or from a state that no turn
+// can start from, nothing is done.
+fn in_room(
+    input: &[u8],
+    from: Option<State>,
+    codeword: &mut [u8],
+    serials: &mut [u32],
+    line: &mut [u8],
+) -> Turn
+    ensures { MatchOption from
+        (BeginPost input.now codeword.old serials.old line.old result codeword.new serials.new line.new)
+        (λ s. TurnPost input.now s codeword.old serials.old line.old result codeword.new serials.new line.new) }
+{
+    let Some(codeword) = codeword.as_mut_array() else {
+        return idle();
+    };
+    let Some(serials) = serials.as_mut_array() else {
+        return idle();
+    };
+    let Some(line) = line.as_mut_array() else {
+        return idle();
+    };
+    match from {
+        None => begin_within(input, codeword, serials, line),
+        Some(s) if s.is_standing() => turn_within(input, s, codeword, serials, line),
+        Some(_) => idle(),
     }
 }

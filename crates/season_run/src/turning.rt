@@ -1,14 +1,13 @@
 // One event after the set-up.
-ghost use Rattle.std.specs.Prelude.{◌≡◌, List, ℕ, ◌≤◌, ◌<◌, length, Ok};
+ghost use Rattle.std.specs.Prelude.{◌≡◌, List, ℕ, ◌<◌, Ok};
 ghost use Rattle.gates.specs.Refusals.{answer};
 ghost use Rattle.season_file.specs.File.{item_at};
 ghost use Rattle.season_effects.specs.Effects.{effect_of};
 ghost use Rattle.season_run.specs.Season.{Goes, place_of, Turned, Standing, TurnPost};
 
-use super::{State, Turn, idle, last_line};
+use super::{State, Turn, idle, in_room, last_line};
 use gates::Refusal;
 use params::Params;
-use season_answers::record_length;
 use season_effects::{Effect, take_effect};
 use season_file::parsing::parse;
 use season_file::{FileFault, Found};
@@ -24,26 +23,11 @@ pub fn turn(
 ) -> Turn
     ensures { TurnPost input.now s codeword.old serials.old line.old result codeword.new serials.new line.new }
 {
-    let Some(codeword) = codeword.as_mut_array() else {
-        return idle();
-    };
-    let Some(serials) = serials.as_mut_array() else {
-        return idle();
-    };
-    let Some(line) = line.as_mut_array() else {
-        return idle();
-    };
-    if record_length(s.params).is_none() {
-        return idle();
-    }
-    if 65536 < s.number {
-        return idle();
-    }
-    turn_within(input, s, codeword, serials, line)
+    in_room(input, Some(s), codeword, serials, line)
 }
 
 // The same from a state that a turn can start from.
-fn turn_within(
+pub(crate) fn turn_within(
     input: &[u8],
     s: State,
     codeword: &mut [u8; 32768],
@@ -63,8 +47,7 @@ fn turn_within(
 }
 
 // No event is left: the bytes that are left over.
-fn finish(input: &[u8], s: State, line: &mut [u8]) -> Turn
-    requires in_bounds { 64 ≤ length line.old }
+fn finish(input: &[u8], s: State, line: &mut [u8; 65600]) -> Turn
     requires left_value { s.left ≡ 0 }
     ensures { (buffer serials : List ℕ) → Turned (Goes input.now (place_of s buffer serials)) buffer serials line.old result buffer serials line.new }
 {

@@ -24,13 +24,28 @@ slice_bounds-encode-end c = let s = c in omega (arith, (header-inside s.args.inp
 pub slice_bounds-encode-end-2 : goal.slice_bounds-encode-end-2
 slice_bounds-encode-end-2 c = let s = c in omega (arith, (header-inside s.args.input.now s.args.header s.requires.input_value).1)
 
+pub slice_bounds-encode-end-3 : goal.slice_bounds-encode-end-3
+slice_bounds-encode-end-3 c =
+    let s = c in
+    omega (arith, size_fits s.args.header.params _ (size (goal.at.slice_bounds-encode-end-3 c).After-unwrap_or-length))
+
+pub slice_bounds-encode-end-4 : goal.slice_bounds-encode-end-4
+slice_bounds-encode-end-4 c =
+    let s = c in
+    sym (length-take-le _ c.args.codeword.now (omega (arith, size_fits s.args.header.params _ (size (goal.at.slice_bounds-encode-end-4 c).After-unwrap_or-length))))
+
+pub slice_bounds-encode-end-5 : goal.slice_bounds-encode-end-5
+slice_bounds-encode-end-5 c = omega (arith, c.min-nodes.ensures)
+
+pub slice_bounds-encode-end-6 : goal.slice_bounds-encode-end-6
+slice_bounds-encode-end-6 c = sym (length-take-le _ c.args.serials.now (omega (arith, c.min-nodes.ensures)))
+
 pub returns-in-Err : goal.returns-in-Err
 returns-in-Err c =
     let s = c in
     let n = c.min-nodes.ensures in
     let u = c.encode-answer in
-    set-up-refused s.args.input.now s.args.header s.requires.input_value s.args.codeword.now s.args.serials.now c.told-codeword
-    c.told-serials _ _ (size (goal.at.returns-in-Err c).After-unwrap_or-length) (omega (arith, n)) (λ few. omega (arith, n, few)) _ _ _ u.auto.codeword
+    set-up-refused s.args.input.now s.args.header s.requires.input_value s.args.codeword.now s.args.serials.now (omega arith) (omega arith) _ _ (size (goal.at.returns-in-Err c).After-unwrap_or-length) (omega (arith, n)) (λ few. omega (arith, n, few)) _ _ _ u.auto.codeword
     u.auto.serials c.in-Err.ensures (number-not-0 _) s.args.line.now _ _
     (rw c.from.ensures at c.last_line.ensures)
 
@@ -39,7 +54,6 @@ returns c =
     let s = c in
     let n = c.min-nodes.ensures in
     let u = c.encode-answer in
-    set-up-accepted s.args.input.now s.args.header s.requires.input_value s.args.codeword.now s.args.serials.now c.told-codeword
-    c.told-serials _ _ (size (goal.at.returns c).After-unwrap_or-length) (omega (arith, n)) (λ few. omega (arith, n, few)) _ _ _ u.auto.codeword
+    set-up-accepted s.args.input.now s.args.header s.requires.input_value s.args.codeword.now s.args.serials.now (omega arith) (omega arith) _ _ (size (goal.at.returns c).After-unwrap_or-length) (omega (arith, n)) (λ few. omega (arith, n, few)) _ _ _ u.auto.codeword
     u.auto.serials c.in_default.ensures refl s.args.line.now _ _
-    c.write_line-written.ensures (omega (arith, c.told-line))
+    c.write_line-written.ensures (omega arith)
