@@ -46,6 +46,8 @@ pub fn record_length(a: Params) -> Option<usize>
     ensures { RecordLength a result }
 {
     let length = a.n.saturating_mul(a.b);
-    check_gate(a, length).ok()?;
+    if check_gate(a, length).is_err() {
+        return None;
+    }
     Some(length)
 }
