@@ -18,6 +18,7 @@ pub fn in_order() -> [u8; 32]
 
 // The block numbers of the set's nodes, in rising order of the nodes, go to the front of out, which has 32 places; what stands behind them is as it was. Where
 // out has not 32 places, nothing is written.
+// (A struct of the array and the count, returned by value, was tried: the array is copied just after single bytes were stored, and small calls are up to 6 % slower.)
 pub fn places_of(set: NodeSet, out: &mut [u8])
     ensures { Placing set.0 out.old out.new }
 {

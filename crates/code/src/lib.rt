@@ -18,6 +18,7 @@ pub fn point(node: Node) -> Elem
 
 // The points of the set's nodes, in rising order of the nodes, go to the front of out, which has 32 places; what stands behind them is as it was. The answer
 // is how many they are. Where out has not 32 places, nothing is written, and the answer is 0.
+// A lent buffer, and the count as the answer: its contract, Pointing, and the must-fail edits on it say so.
 pub fn points_of(set: NodeSet, out: &mut [u8]) -> usize
     ensures { Pointing set.0 out.old result out.new }
 {

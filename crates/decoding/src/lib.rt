@@ -49,6 +49,7 @@ fn decode_in<const ROOM: usize>(a: Params, codeword: &[u8], from: NodeSet, out: 
 }
 
 // The same, with room for the rows. Codeword and rows are lent anew, for the reason that encode_within of crate encoding gives.
+// The room is a slice: with a const parameter in its place the body would stand in the library once for each size of room.
 fn decode_within(a: Params, codeword: &[u8], from: NodeSet, rows: &mut [u8], out: &mut [u8])
     requires decodable { Decodable a (length codeword.now) (length out.old) from.0 }
     requires from_in_bounds { a.k * size from.0 ≤ length rows.old }

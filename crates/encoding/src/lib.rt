@@ -100,6 +100,7 @@ fn encode_parts_in<const ROOM: usize>(a: Params, parts: &[u8], codeword: &mut [u
 
 // The same, with room for the powers: a row for each node, a column for each part. Parts and rows are lent anew: a slice that is handed on as it came is copied,
 // pointer and length at once, just after these were stored one by one, and such a copy waits for the stores.
+// The room is a slice: with a const parameter in its place the body would stand in the library once for each size of room.
 fn encode_within(a: Params, parts: &[u8], rows: &mut [u8], codeword: &mut [u8])
     requires raisable { Raisable a (length parts.now) (length codeword.old) }
     requires a_in_bounds { a.n * working a ≤ length rows.old }

@@ -68,6 +68,7 @@ impl NodeSet {
     // (Document 01, "Forms we want to see": a set's size by the count of ones, its nodes by trailing zeros.)
     // The nodes in rising order go to the front of out, which has 32 places; what stands behind them is as it was. The answer is how many they are. Where out has not
     // 32 places, nothing is written, and the answer is 0.
+    // A lent buffer, and the count as the answer: its contract, Listing, and the must-fail edits on it say so.
     pub fn list(self, out: &mut [u8]) -> usize
         ensures { Listing self.0 out.old result out.new }
     {

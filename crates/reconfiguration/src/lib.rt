@@ -97,6 +97,7 @@ impl<'a> Rearrangement<'a> {
     }
 
     // z: the old pair's blocks at the nodes outside W'. The new pair's blocks in W' and above n then go over a copy of the old record.
+    // The room is a slice: with a const parameter in its place the body would stand in the library once for each size of room.
     fn write_over(&self, z: &mut [u8], out: &mut [u8])
         requires asks { Asks self.now (length out.old) }
         requires b_in_bounds { slack_parts (reshaped self.now.a self.now.shape) * self.now.a.b ≤ length z.old }

@@ -1,5 +1,5 @@
 -- The gate's number, and the core where it is 0. Exactly one pair gives the blocks of R's q lowest nodes. Assumes nothing.
-use mathlib.Core.Path.{refl, sym, ◌∙◌}
+use mathlib.Core.Path.{refl, sym}
 use Prim.Native.Nat.{◌^◌, ◌<◌}
 use native.Mathlib.Omega.{arith}
 use Rattle.gates.proofs.Valid.{decode-accepted}

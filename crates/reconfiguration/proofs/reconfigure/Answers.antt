@@ -1,5 +1,5 @@
 -- Refused, nothing is written; else the record is rewritten, and its serials follow. Assumes nothing.
-use mathlib.Core.Path.{refl, sym, ◌∙◌}
+use mathlib.Core.Path.{refl, sym}
 use native.Mathlib.Omega.{arith}
 use Rattle.gates.proofs.Valid.{reconfigure-accepted}
 use Rattle.code.proofs.Posts.{served, refused}

@@ -1,5 +1,5 @@
 -- Refused, nothing is written; else the blocks are rebuilt, and the serials follow. Assumes nothing.
-use mathlib.Core.Path.{refl, sym, ◌∙◌}
+use mathlib.Core.Path.{refl, sym}
 use native.Mathlib.Omega.{arith}
 use borrow.Author.Rules.{rules}
 use Rattle.gates.proofs.Valid.{repair-accepted}
