@@ -1,10 +1,12 @@
--- A loop over the bytes that two blocks share: the bytes behind them are right as they were. Assumes nothing.
+-- The bytes that two blocks share are written: the bytes behind them are right as they were. Assumes nothing.
 use mathlib.Core.Path.{◌≡◌, sym, ap, ◌∙◌}
-use mathlib.Core.List.{List}
+use mathlib.Core.List.{List, ◌++◌}
 use mathlib.Core.Logic.{⊎_elim}
-use Prim.Native.Nat.{ℕ, ◌≤◌, ◌<◌}
+use Prim.Native.Nat.{ℕ, ◌+◌, ◌-◌, ◌≤◌, ◌<◌}
 use native.Mathlib.Omega.{arith}
-use lib.ListN.{length, get_or, get_or-eq_default}
+use lib.ListN.{length, take, drop, get_or, length-append, length-drop, get_or-append, get_or-eq_default}
+use lib.Seq.{length-take-le, get_or-take, get_or-drop, get_or-append_right}
+use Rattle.std.proofs.lemmas.List.{get_or_default}
 use Rattle.base.specs.Seq.{tabulate}
 use Rattle.base.proofs.Cases.{lt-or}
 use Rattle.base.specs.Parts.{Filled}
@@ -32,3 +34,30 @@ module _ (xs ys new : List ℕ) (t : ℕ) (ends : t < length xs → length ys �
   pub filled-over : Filled (λ q. get_or ys q (get_or xs q 0)) t xs new → new ≡ over xs ys
   unfolding over
   filled-over s = filled-front _ t xs new (λ q le lt. sym (get_or-eq_default ys (get_or xs q 0) (past q le lt))) s
+
+-- the first n bytes lent and come back as `front`
+lent-front : (f : ℕ → ℕ) (n : ℕ) (xs front : List ℕ) → n ≤ length xs → length front ≡ n → ((q : ℕ) → q < n → get_or front q 0 ≡ f q)
+    → Filled f n xs (front ++ drop n xs)
+lent-front f n xs front fits e done =
+    record {
+      same = omega (arith, length-append front (drop n xs), length-drop n xs, fits, e);
+      done = λ q h. get_or-append front (drop n xs) 0 q (omega (arith, e)) ∙ done q h;
+      rest = λ q h.
+          get_or-append_right front (drop n xs) q 0 (omega (arith, e)) ∙ get_or-drop n xs (q - length front) 0
+          ∙ ap (λ (k : ℕ). get_or xs k 0) (place q h);
+    }
+  where
+    place : (q : ℕ) → n ≤ q → n + (q - length front) ≡ q
+    place q h = omega (arith, e)
+
+module _ (xs ys : List ℕ) (n : ℕ) (fits : n ≤ length xs) where
+  pub added-front : (t : ℕ) (front : List ℕ) → n ≤ t → Filled (λ q. add (get_or (take n xs) q 0) (get_or ys q 0)) t (take n xs) front
+      → Filled (λ q. add (get_or xs q 0) (get_or ys q 0)) n xs (front ++ drop n xs)
+  added-front t front le s =
+      lent-front _ n xs front fits (s.same ∙ length-take-le n xs fits)
+      (λ q h. s.done q (omega arith) ∙ ap (λ (x : ℕ). add x (get_or ys q 0)) (get_or-take n xs q 0 h))
+
+  pub copied-front : n ≤ length ys → Filled (λ q. get_or ys q (get_or xs q 0)) n xs (take n ys ++ drop n xs)
+  copied-front room =
+      lent-front _ n xs (take n ys) fits (length-take-le n ys room)
+      (λ q h. get_or-take n ys q 0 h ∙ get_or_default ys q 0 (get_or xs q 0) (omega arith))

@@ -10,9 +10,8 @@ pub fn add_block(dst: &mut [u8], src: &[u8])
     ensures { dst.new ≡ plus dst.old src.now }
 {
     let count = dst.len().min(src.len());
-    // by a range: what goes through a zip of iter_mut, no proof knows afterwards
-    for p in 0..count {
-        dst[p] ^= src[p];
+    for (p, byte) in dst[..count].iter_mut().enumerate() {
+        *byte ^= src[p];
     }
 }
 
@@ -21,13 +20,11 @@ pub fn copy_block(dst: &mut [u8], src: &[u8])
     ensures { dst.new ≡ over dst.old src.now }
 {
     let size = dst.len().min(src.len());
-    // by a range, as above; copy_from_slice would be a call of memcpy, slower for 16 to 64 bytes
-    for p in 0..size {
-        dst[p] = src[p];
-    }
+    dst[..size].copy_from_slice(&src[..size]);
 }
 
 // dst := 0
+// (By name, as its contract is what the callers cite; over u32 it is serials::clear_serials.)
 pub fn clear(dst: &mut [u8])
     ensures { dst.new ≡ replicate (length dst.old) 0 }
 {
@@ -35,6 +32,7 @@ pub fn clear(dst: &mut [u8])
 }
 
 // Whether two blocks differ, in their lengths or in a byte.
+// (A name for `!=`: edits of what it means stand on it.)
 pub fn differs(x: &[u8], y: &[u8]) -> bool
     ensures { Compared x.now y.now result }
 {

@@ -20,10 +20,10 @@ pub fn times(c: u8, x: u8) -> u8
     let mut sum = 0;
     let mut multiple = c;
     let mut rest = x;
-    for i in 0..8usize {
-        sum = sum ^ (multiple * (rest % 2));
+    for _ in 0..8usize {
+        sum ^= multiple * (rest % 2);
         multiple = double(multiple);
-        rest = rest / 2;
+        rest /= 2;
     }
     sum
 }

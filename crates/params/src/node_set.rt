@@ -6,6 +6,7 @@ ghost use Rattle.params.specs.Nodes.{has, size, within, disjoint, outside, lowes
 use super::{Node, NodeSet};
 
 impl NodeSet {
+    // How many nodes the set has.
     pub fn size(self) -> usize
         ensures { result ≡ size self.0 }
     {
@@ -13,6 +14,7 @@ impl NodeSet {
     }
 
     // No set has node 0, or a node above 32.
+    // (For callers; no call uses it. The edits has_the_others and node_32_never_there stand on it.)
     pub fn has(self, node: Node) -> bool
         ensures { result ≡ has self.0 node.0 }
     {
@@ -35,6 +37,7 @@ impl NodeSet {
         self.0 < 1u32 << n
     }
 
+    // Whether no node is in both sets.
     pub fn disjoint(self, other: NodeSet) -> bool
         ensures { result ≡ disjoint self.0 other.0 }
     {

@@ -1,5 +1,9 @@
 // The line that an event of a season file prints (document 01, "The season program"). Each private function that puts a text into the line takes where the
 // text begins and returns where it ends.
+// (By hand and not by write!: `LinePost` promises the bytes and the count of a line in a lent buffer, and of a lent slice std's Write for write! promises how many
+// bytes were written, not which; and the definition of `decimal` is the document's own.)
+// (No struct of line and at: no plainer, as `TextAt` tells the line before and after and both places. No Cursor: its write answers a Result, for a case that a line with
+// room does not have.)
 #![tactic(auto)]
 
 ghost use Rattle.std.specs.Prelude.{◌≡◌, [], ◌∷◌, ◌+◌, ◌*◌, ◌≤◌, ◌<◌, length, drop};
@@ -8,6 +12,8 @@ ghost use Rattle.season_lines.specs.Writing.{TextAt};
 
 // Writes number, kind and answer in decimal and the message in hexadecimal, with single spaces between them and a line end, and returns the line's length. Where
 // the buffer may be too short nothing is written and 0 is returned.
+// (0 and no Option: `LinePost` promises it, and a turn that prints nothing has written = 0 too, so each caller would turn None into 0 again.)
+// (Numbers, as the line prints them: an answer is a Refusal's or a FileFault's number, or 0, and the kind of a fault may be a byte that is no Kind.)
 pub fn write_line(line: &mut [u8], number: usize, kind: u8, answer: u32, message: &[u8]) -> usize
     ensures { LinePost number kind answer message.now line.old result line.new }
 {
@@ -26,7 +32,7 @@ fn put_line(line: &mut [u8], number: usize, kind: u8, answer: u32, message: &[u8
     ensures { TextAt (line_of number kind answer message.now) 0 line.old result line.new }
 {
     let mut at = put_number(line, 0, number);
-    at = put_field(line, at, kind as usize);
+    at = put_field(line, at, usize::from(kind));
     at = put_field(line, at, answer as usize);
     at = put_message(line, at, message);
     put_byte(line, at, 10)
@@ -41,6 +47,7 @@ fn put_field(line: &mut [u8], at: usize, number: usize) -> usize
     put_number(line, start, number)
 }
 
+// One byte.
 fn put_byte(line: &mut [u8], at: usize, x: u8) -> usize
     requires { at < length line.old }
     ensures { TextAt (x ∷ []) at line.old result line.new }
@@ -65,6 +72,7 @@ fn last_digits(number: usize, digits: &mut [u8]) -> usize
     ensures { (result ≤ 20) × (drop result digits.new ≡ decimal number) }
 {
     let mut rest = number;
+    // by a range: the invariant needs the place, and of a reversed iterator it has only what it gave
     for start in (0..20).rev() {
         digits[start] = 48 + (rest % 10) as u8;
         rest /= 10;
@@ -75,6 +83,7 @@ fn last_digits(number: usize, digits: &mut [u8]) -> usize
     0
 }
 
+// A text that is there already.
 fn put_bytes(line: &mut [u8], at: usize, text: &[u8]) -> usize
     requires { at + length text.now ≤ length line.old }
     ensures { TextAt text.now at line.old result line.new }

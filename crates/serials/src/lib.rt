@@ -28,6 +28,7 @@ fn older(serials: &[u32], serial: u32) -> u32
     ensures { (j : ℕ) → j < 32 → has result (suc j) ≡ (ltb (get_or serials.now j 0) serial && leb (suc j) (length serials.now)) }
 {
     let mut word: u32 = 0;
+    // by a range: the invariant needs the place, and of a reversed iterator it has only what it gave
     for at in (0..serials.len().min(32)).rev() {
         word = word * 2 + u32::from(serials[at] < serial);
     }
@@ -49,9 +50,9 @@ pub fn stamp(serials: &mut [u32], set: NodeSet, serial: u32)
 pub fn hand_on(serials: &[u32], set: NodeSet, serial: u32, out: &mut [u32])
     ensures { Stamped (length out.old) (has set.0) serial serials.now out.new }
 {
-    for (at, own) in out.iter_mut().enumerate() {
-        *own = serials.get(at).copied().unwrap_or(0);
-    }
+    let count = serials.len().min(out.len());
+    out[..count].copy_from_slice(&serials[..count]);
+    out[count..].fill(0);
     stamp(out, set, serial);
 }
 

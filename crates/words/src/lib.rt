@@ -2,7 +2,6 @@
 #![tactic(auto)]
 
 ghost use Rattle.std.specs.Prelude.{◌≡◌, ◌<◌, length};
-ghost use Rattle.std.specs.Int.Bits.{bit_xor};
 ghost use Rattle.field.specs.Field.{plus};
 ghost use Rattle.words.specs.Words.{word_of, low_bytes};
 
@@ -31,22 +30,14 @@ fn add_tail(dst: &mut [u8], src: &[u8])
     add_block(dst, src);
 }
 
-// Eight bytes += eight others, as one word.
+// Eight bytes += eight others, as one word: exclusive or has no carry from byte to byte.
 fn add_word(dst: &mut [u8], src: &[u8])
     requires { (length dst.old ≡ 8) × (length src.now ≡ 8) }
     ensures { dst.new ≡ plus dst.old src.now }
 {
     let x = word_of(dst);
     let y = word_of(src);
-    let sum = sum_of(x, y);
-    put_word(dst, sum);
-}
-
-// The sum of two words: exclusive or, with no carry from byte to byte.
-fn sum_of(x: u64, y: u64) -> u64
-    ensures { result ≡ bit_xor x y }
-{
-    x ^ y
+    put_word(dst, x ^ y);
 }
 
 // Eight bytes as a word, the first the lowest.
@@ -54,14 +45,13 @@ fn word_of(bytes: &[u8]) -> u64
     requires { length bytes.now ≡ 8 }
     ensures { result ≡ word_of bytes.now }
 {
-    let mut word = 0;
-    for s in (0..8).rev() {
-        word = word * 256 + u64::from(bytes[s]);
-    }
-    word
+    u64::from_le_bytes([
+        bytes[0], bytes[1], bytes[2], bytes[3], bytes[4], bytes[5], bytes[6], bytes[7],
+    ])
 }
 
 // bytes := those of a word, the lowest first: as many as there is room for, and 00 behind all eight.
+// (Not by to_le_bytes: `low_bytes` is promised for a slice of any length, also one of more than eight bytes.)
 pub fn put_word(bytes: &mut [u8], word: u64)
     ensures { bytes.new ≡ low_bytes (length bytes.old) word }
 {

@@ -5,4 +5,4 @@ use Rattle.field.specs.Field.{add}
 use Rattle.blocks.proofs.add_block.Given as goal
 
 abbrev pub invariant-loop-p : goal.invariant-loop-p
-invariant-loop-p l = Filled (λ q. add (get_or l.initial.dst q 0) (get_or l.src q 0)) l.p l.initial.dst l.dst
+invariant-loop-p l = Filled (λ q. add (get_or l.initial.byte-items q 0) (get_or l.src q 0)) l.p l.initial.byte-items l.byte-items

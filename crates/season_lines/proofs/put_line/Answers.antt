@@ -1,4 +1,5 @@
 -- One text behind the other; each number has at most 20 digits. Assumes nothing.
+use mathlib.Core.Path.{sym}
 use native.Mathlib.Omega.{arith}
 use Rattle.season_lines.specs.Lines.{line_of}
 use Rattle.season_lines.proofs.Decimal.{decimal-short}
@@ -20,7 +21,7 @@ put_field-at-requires-2 c =
       c.put_field-at.ensures.ends,
       c.put_field-at.auto.line,
       decimal-short c.args.number,
-      decimal-short c.args.kind,
+      decimal-short c.from.result,
     )
 
 pub put_message-at-requires : goal.put_message-at-requires
@@ -35,7 +36,7 @@ put_message-at-requires c =
       c.put_field-at-2.ensures.ends,
       c.put_field-at-2.auto.line,
       decimal-short c.args.number,
-      decimal-short c.args.kind,
+      decimal-short c.from.result,
       decimal-short c.args.answer,
     )
 
@@ -53,7 +54,7 @@ put_byte-requires c =
       c.put_message-at.ensures.ends,
       c.put_message-at.auto.line,
       decimal-short c.args.number,
-      decimal-short c.args.kind,
+      decimal-short c.from.result,
       decimal-short c.args.answer,
       message-short c.args.message.now,
     )
@@ -61,8 +62,9 @@ put_byte-requires c =
 pub returns : goal.returns
 unfolding line_of
 returns c =
-    put_then _ _ 0 _ _ _ _ _ (omega arith)
+    rw (sym c.from.ensures)
+    (put_then _ _ 0 _ _ _ _ _ (omega arith)
     (put_then _ _ 0 _ _ _ _ _ (omega arith)
     (put_then _ _ 0 _ _ _ _ _ (omega arith)
     (put_then _ _ 0 _ _ _ _ _ (omega arith) c.put_number-at.ensures c.put_field-at.ensures) c.put_field-at-2.ensures) c.put_message-at.ensures)
-    c.put_byte.ensures
+    c.put_byte.ensures)

@@ -17,6 +17,6 @@ unfolding add
 returns c =
     let s = c.args in
     let fit : (i : ℕ) → Fits w8 (get_or s.dst.now i 0) = search rules in
-    c.put_word.ensures ∙ ap (low_bytes (length s.dst.now)) (c.sum_of-sum.ensures ∙ ap₂ bit_xor c.word_of-x.ensures c.word_of-y.ensures)
+    c.put_word.ensures ∙ ap (low_bytes (length s.dst.now)) (ap₂ bit_xor c.word_of-x.ensures c.word_of-y.ensures)
     ∙ sum-holds s.dst.now s.src.now (λ i. omega (arith, (fit i).fits)) (λ i. omega (arith, (c.type_inv.src i).fits))
     (omega (arith, c.requires.0, c.requires.1))
