@@ -25,8 +25,10 @@ pub fn decode(a: Params, codeword: &[u8], from: NodeSet, out: &mut [u8]) -> Resu
     Ok(())
 }
 
-// Reads the message from as many nodes as message and slack have parts. Room for the rows that take their blocks to the message is no more than is wanted, since
-// it is cleared at each call.
+// Reads the message from as many nodes as message and slack have parts. Room for the rows that take their blocks to the message is of about the size that is
+// wanted, since it is cleared at each call.
+// (A ladder of its own: a function over any closure would have to state for it what this contract says in its own words.)
+// (What the three functions from here on ask for is no struct: each is a step of the one before, and the last would take the struct apart again.)
 fn decode_parts(a: Params, codeword: &[u8], from: NodeSet, out: &mut [u8])
     requires { Decodable a (length codeword.now) (length out.old) from.0 }
     ensures { Recovered a codeword.now from.0 out.new }

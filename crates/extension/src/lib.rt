@@ -112,7 +112,8 @@ struct Extension<'a> {
 }
 
 impl<'a> Extension<'a> {
-    // The values at the targets are added to their blocks of out. Room for the rows is no more than is wanted, since it is cleared at each call.
+    // The values at the targets are added to their blocks of out. Room for the rows is of about the size that is wanted, since it is cleared at each call.
+    // (A ladder of its own: a function over any closure would have to state for it what this contract says in its own words.)
     fn add_to(&self, out: &mut [u8])
         requires asks { Asks self.now (length out.old) }
         requires bytes { Bytes self.now.message.now }

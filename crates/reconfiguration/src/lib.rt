@@ -69,7 +69,8 @@ struct Rearrangement<'a> {
 }
 
 impl<'a> Rearrangement<'a> {
-    // Makes room for the old pair's blocks outside W', no more than is wanted, since room is cleared at each call.
+    // Makes room for the old pair's blocks outside W', of about the size that is wanted, since room is cleared at each call.
+    // (A ladder of its own: a function over any closure would have to state for it what this contract says in its own words.)
     fn write(&self, out: &mut [u8])
         requires { Asks self.now (length out.old) }
         ensures { Writes self.now out.new }

@@ -14,7 +14,7 @@ use params::Params;
 use season_answers::{answer, record_length};
 use season_file::{Event, Span};
 
-// What an event leaves.
+// What an event leaves. (A count and no slice for the message: the room is the caller's, who writes the line from it.)
 #[derive(Clone, Copy)]
 pub struct Effect {
     // the parameters in force
@@ -24,7 +24,8 @@ pub struct Effect {
 }
 
 // The event's effect, with room for a message or a new record, or why it is refused and has none. The serial is the event's number. The room has 32,768
-// bytes too; with other lengths, with parameters that no set-up accepts, or where the event's blocks do not stand in the input in full, nothing is done.
+// bytes too; with other lengths, with parameters that no set-up accepts, or where the event's blocks do not stand in the input in full, nothing is done, and the result
+// is Ok: `EffectPost` has the answer in either case.
 pub fn take_effect(
     a: Params,
     input: &[u8],

@@ -38,7 +38,8 @@ impl State {
     }
 }
 
-// What a turn gives back: how many bytes of the line it wrote, and from where the run goes on, if it does.
+// What a turn gives back: how many bytes of the line it wrote, and from where the run goes on, if it does. (A count and no slice: the line's buffer is lent again for
+// the next turn.)
 #[derive(Clone, Copy)]
 pub struct Turn {
     pub written: usize,

@@ -94,7 +94,7 @@ fn try_event(
     }
 }
 
-// The answer that an event's line tells, and what the event leaves: where it is refused, the parameters in force.
+// The answer that an event's line tells, a number (`LinePost`), and what the event leaves: where it is refused, the parameters in force.
 fn told(a: Params, taken: Result<Effect, Refusal>) -> (u32, Effect)
     ensures { (result.0 ≡ answer taken) × (result.1 ≡ effect_of a taken) }
 {

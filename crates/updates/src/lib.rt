@@ -51,7 +51,8 @@ pub fn update(
 }
 
 // What a change that vanishes at the nodes outside `to` makes of the block of each of the takers is added to the block of out that targets names for it. Room
-// for the rows is no more than is wanted, since it is cleared at each call.
+// for the rows is of about the size that is wanted, since it is cleared at each call.
+// (A ladder of its own: a function over any closure would have to state for it what this contract says in its own words.)
 fn spread(a: Params, change: &[u8], to: NodeSet, takers: NodeSet, targets: &[u8], out: &mut [u8])
     requires { Spreadable a (length change.now) to.0 takers.0 targets.now (length out.old) }
     ensures { Spread a change.now to.0 takers.0 targets.now out.old out.new }
