@@ -6,7 +6,7 @@ ghost use Rattle.params.specs.Nodes.{in_order, Placing};
 
 use params::NodeSet;
 
-// The block numbers 0, 1, 2, .., 31.
+// The block numbers 0, 1, 2, .., 31. (Written out: a constant to the compiler, which lays it down once.)
 pub fn in_order() -> [u8; 32]
     ensures { result ≡ in_order }
 {
@@ -18,7 +18,7 @@ pub fn in_order() -> [u8; 32]
 
 // The block numbers of the set's nodes, in rising order of the nodes, go to the front of out, which has 32 places; what stands behind them is as it was. Where
 // out has not 32 places, nothing is written.
-// (A struct of the array and the count, returned by value, was tried: the array is copied just after single bytes were stored, and small calls are up to 6 % slower.)
+// (Twin of code::points_of: why they are two functions is told there. A struct of the array and the count, returned by value, was tried: the array is copied just after single bytes were stored, and small calls are up to 6 % slower.)
 pub fn places_of(set: NodeSet, out: &mut [u8])
     ensures { Placing set.0 out.old out.new }
 {

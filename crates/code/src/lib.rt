@@ -18,7 +18,8 @@ pub fn point(node: Node) -> Elem
 
 // The points of the set's nodes, in rising order of the nodes, go to the front of out, which has 32 places; what stands behind them is as it was. The answer
 // is how many they are. Where out has not 32 places, nothing is written, and the answer is 0.
-// A lent buffer, and the count as the answer: its contract, Pointing, and the must-fail edits on it say so.
+// A lent buffer, and the count as the answer: its contract, Pointing, and the must-fail edits on it say so. (Not one function with block_numbers::places_of over an
+// `impl Fn(Node) -> u8`: it would be public, and would have to require that its closure may be called.)
 pub fn points_of(set: NodeSet, out: &mut [u8]) -> usize
     ensures { Pointing set.0 out.old result out.new }
 {

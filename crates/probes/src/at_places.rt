@@ -11,7 +11,7 @@ pub(crate) fn pick(a: Params, codeword: &[u8], places: &[usize], picked: &mut [u
     ensures { PlacesIn a.b places.now → Filled (picked_byte a codeword.now places.now) (a.n * length places.now) picked.old picked.new }
 {
     let count = places.len();
-    // by one range: what goes through a zip of chunks_exact_mut, no proof knows afterwards
+    // by one range: node and place are at / count and at % count in any form, and what goes through a zip of chunks_exact_mut, no proof knows afterwards
     for at in 0..a.n * count {
         let place = places[at % count];
         if a.b <= place {

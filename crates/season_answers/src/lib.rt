@@ -41,7 +41,7 @@ fn reconfigure_answer(a: Params, f: ReconfigureFields) -> Result<(), Refusal>
     reconfigure_gate(a, shape, codeword, a.n, new, shape.n, message, f.from, f.to)
 }
 
-// The length of a record, if a set-up accepts its parameters.
+// The length of a record, if a set-up accepts its parameters. (By `is_err` and not by `?`: two must-fail edits stand on this test.)
 pub fn record_length(a: Params) -> Option<usize>
     ensures { RecordLength a result }
 {
