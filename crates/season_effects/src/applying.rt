@@ -62,6 +62,7 @@ fn apply_update(
     let length = nodes * a.b;
     let at = f.change.at;
     let end = at + f.change.count;
+    // the answer is known (`apply`: the event is accepted)
     let _ = update(
         a,
         &mut codeword[..length],
@@ -71,10 +72,7 @@ fn apply_update(
         serial,
         f.to,
     );
-    Effect {
-        params: a,
-        printed: 0,
-    }
+    Effect::silent(a)
 }
 
 fn apply_repair(a: Params, f: RepairFields, codeword: &mut [u8], serials: &mut [u32]) -> Effect
@@ -84,6 +82,7 @@ fn apply_repair(a: Params, f: RepairFields, codeword: &mut [u8], serials: &mut [
 {
     let nodes = a.n;
     let length = nodes * a.b;
+    // the answer is known (`apply`: the event is accepted)
     let _ = repair(
         a,
         &mut codeword[..length],
@@ -91,10 +90,7 @@ fn apply_repair(a: Params, f: RepairFields, codeword: &mut [u8], serials: &mut [
         f.from,
         f.lost,
     );
-    Effect {
-        params: a,
-        printed: 0,
-    }
+    Effect::silent(a)
 }
 
 // The blocks of the set's nodes become those given; their serials stay.
@@ -109,10 +105,7 @@ fn apply_damage(a: Params, input: &[u8], f: DamageFields, codeword: &mut [u8]) -
     let at = f.blocks.at;
     let end = at + f.blocks.count;
     put_blocks(&mut codeword[..length], f.nodes, &input[at..end], a.b);
-    Effect {
-        params: a,
-        printed: 0,
-    }
+    Effect::silent(a)
 }
 
 // The message read stands at the front of the room.
@@ -124,6 +117,7 @@ fn apply_decode(a: Params, f: DecodeFields, codeword: &[u8], room: &mut [u8]) ->
 {
     let length = a.n * a.b;
     let count = a.k * a.b;
+    // the answer is known (`apply`: the event is accepted)
     let _ = decode(a, &codeword[..length], f.from, &mut room[..count]);
     Effect {
         params: a,
@@ -170,6 +164,7 @@ fn reconfigure_within(
     let new = new_nodes * a.b;
     let at = f.message.at;
     let end = at + f.message.count;
+    // the answer is known (`apply`: the event is accepted)
     let _ = reconfigure(
         a,
         shape,

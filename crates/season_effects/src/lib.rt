@@ -4,7 +4,7 @@
 
 mod applying;
 
-ghost use Rattle.std.specs.Prelude.{length};
+ghost use Rattle.std.specs.Prelude.{◌≡◌, length};
 ghost use Rattle.base.specs.Decided.{Decided};
 ghost use Rattle.season_effects.specs.Effects.{Stretch, Accepted, Ready, EffectPost};
 
@@ -21,6 +21,18 @@ pub struct Effect {
     pub params: Params,
     // how many bytes of the room are the message that it prints
     pub printed: usize,
+}
+
+impl Effect {
+    // Nothing is printed.
+    fn silent(a: Params) -> Effect
+        ensures { result ≡ record { params = a; printed = 0 } }
+    {
+        Effect {
+            params: a,
+            printed: 0,
+        }
+    }
 }
 
 // The event's effect, with room for a message or a new record, or why it is refused and has none. The serial is the event's number. The room has 32,768
@@ -41,10 +53,7 @@ pub fn take_effect(
     if is_ready(a, input.len(), e, codeword.len(), serials.len(), room.len()) {
         return Ok(apply(a, input, serial, e, codeword, serials, room));
     }
-    Ok(Effect {
-        params: a,
-        printed: 0,
-    })
+    Ok(Effect::silent(a))
 }
 
 // Whether an accepted event can take effect.

@@ -37,8 +37,9 @@ returns-then-is_ready c =
 
 pub returns : goal.returns
 returns c =
-    record {
+    rw c.silent.ensures
+    (record {
       answer_is = c.in_ok-answer.ensures;
       served = λ h. absurd (c.is_ready.ensures.fails c.if-is_ready.false h);
       refused = λ _. record { params_kept = refl; nothing_printed = refl; buffer_kept = refl; serials_kept = refl; room_kept = refl };
-    }
+    })

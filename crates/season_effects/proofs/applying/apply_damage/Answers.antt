@@ -21,5 +21,6 @@ slice_bounds-put_blocks-end-2 c =
 pub returns : goal.returns
 returns c =
     let s = c in
-    damage-applied s.args.a s.args.input.now s.args.f s.args.codeword.now s.requires.valid s.requires.codeword_len s.requires.stretch (omega arith) s.requires.accepted _
-    c.put_blocks.ensures
+    rw c.silent.ensures
+    (damage-applied s.args.a s.args.input.now s.args.f s.args.codeword.now s.requires.valid s.requires.codeword_len s.requires.stretch (omega arith) s.requires.accepted _
+    c.put_blocks.ensures)

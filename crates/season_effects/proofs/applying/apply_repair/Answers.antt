@@ -25,6 +25,7 @@ pub returns : goal.returns
 returns c =
     let s = c in
     let u = c.repair in
-    repair-applied s.args.a s.requires.valid s.args.codeword.now s.args.serials.now _ _ s.requires.codeword_len.0 s.requires.codeword_len.1
+    rw c.silent.ensures
+    (repair-applied s.args.a s.requires.valid s.args.codeword.now s.args.serials.now _ _ s.requires.codeword_len.0 s.requires.codeword_len.1
     (u.auto.codeword ∙ (front-full c.args.a c.args.codeword.now c.args.serials.now c.requires.valid c.requires.codeword_len.0 c.requires.codeword_len.1).0) (u.auto.serials ∙ (front-full c.args.a c.args.codeword.now c.args.serials.now c.requires.valid c.requires.codeword_len.0 c.requires.codeword_len.1).1)
-    s.args.f _ u.ensures
+    s.args.f _ u.ensures)

@@ -25,6 +25,7 @@ pub returns : goal.returns
 returns c =
     let s = c in
     let u = c.update in
-    update-applied s.args.a s.requires.valid s.args.codeword.now s.args.serials.now _ _ s.requires.codeword_len.0 s.requires.codeword_len.1
+    rw c.silent.ensures
+    (update-applied s.args.a s.requires.valid s.args.codeword.now s.args.serials.now _ _ s.requires.codeword_len.0 s.requires.codeword_len.1
     (u.auto.codeword ∙ (front-full c.args.a c.args.codeword.now c.args.serials.now c.requires.valid c.requires.codeword_len.0 c.requires.codeword_len.1).0) (u.auto.serials ∙ (front-full c.args.a c.args.codeword.now c.args.serials.now c.requires.valid c.requires.codeword_len.0 c.requires.codeword_len.1).1)
-    s.args.input.now s.args.serial s.args.f _ s.requires.stretch u.ensures
+    s.args.input.now s.args.serial s.args.f _ s.requires.stretch u.ensures)
