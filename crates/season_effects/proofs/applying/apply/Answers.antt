@@ -9,7 +9,7 @@ use Rattle.season_effects.proofs.applying.apply.Goals.{Start}
 
 -- what is known of the event holds of its variant
 found : (c : Start) (e : Event) → c.args.e ≡ e → InFull c.args.a (length c.args.input.now) e
-found c e is = subst (InFull c.args.a (length c.args.input.now)) is c.requires.ready.found
+found c e is = subst (InFull c.args.a (length c.args.input.now)) is c.requires.found
 
 accepted : (c : Start) (e : Event) → c.args.e ≡ e → Accepted c.args.a e
 accepted c e is = (c.args.serial, sym (ap (answer_of c.args.a c.args.serial) is) ∙ c.requires.e_value)
@@ -17,16 +17,14 @@ accepted c e is = (c.args.serial, sym (ap (answer_of c.args.a c.args.serial) is)
 pub apply_update-requires : goal.apply_update-requires
 apply_update-requires c = let s = (goal.at.apply_update-requires c).Start in
     record {
-      valid = s.requires.ready.valid;
-      codeword_len = (s.requires.ready.record_room, s.requires.ready.serials_room);
+      valid = s.requires.valid;
       stretch = found s _ c.in-Update.is;
     }
 
 pub apply_repair-requires : goal.apply_repair-requires
 apply_repair-requires c = let s = c in
     record {
-      valid = s.requires.ready.valid;
-      codeword_len = (s.requires.ready.record_room, s.requires.ready.serials_room);
+      valid = s.requires.valid;
     }
 
 pub apply_damage-requires : goal.apply_damage-requires
@@ -34,8 +32,7 @@ apply_damage-requires c =
     let s = (goal.at.apply_damage-requires c).Start in
     let is = c.in-Damage.is in
     record {
-      valid = s.requires.ready.valid;
-      codeword_len = s.requires.ready.record_room;
+      valid = s.requires.valid;
       stretch = found s _ is;
       accepted = accepted s _ is;
     }
@@ -44,18 +41,17 @@ pub apply_decode-requires : goal.apply_decode-requires
 apply_decode-requires c =
     let s = (goal.at.apply_decode-requires c).Start in
     record {
-      valid = s.requires.ready.valid;
-      codeword_len = (s.requires.ready.record_room, s.requires.ready.work_room);
+      valid = s.requires.valid;
       accepted = accepted s _ c.in-Decode.is;
     }
 
 pub apply_reconfigure-requires : goal.apply_reconfigure-requires
 apply_reconfigure-requires c =
     let s = (goal.at.apply_reconfigure-requires c).Start in
-    let p = s.requires.ready in
     let is = c.in-Reconfigure.is in
     record {
-      ready = record { valid = p.valid; found = found s _ is; record_room = p.record_room; serials_room = p.serials_room; work_room = p.work_room };
+      valid = s.requires.valid;
+      stretch = found s _ is;
       accepted = accepted s _ is;
     }
 
@@ -97,7 +93,7 @@ returns-in-Decode c =
     (λ (e : Event).
     Taken s.args.a s.args.input.now s.args.serial e s.args.codeword.now s.args.serials.now s.args.room.now 0 r.result
     s.args.codeword.now s.args.serials.now r.new.room)
-    c.in-Decode.is (r.ensures s.args.input.now s.args.serials.now s.args.serial s.requires.ready.serials_room)
+    c.in-Decode.is (r.ensures s.args.input.now s.args.serials.now s.args.serial s.told-serials)
 
 pub returns-in-Reconfigure : goal.returns-in-Reconfigure
 returns-in-Reconfigure c =

@@ -16,16 +16,16 @@ overflow_mul-count c = k-fits c.requires.valid
 pub slice_bounds-decode-end : goal.slice_bounds-decode-end
 slice_bounds-decode-end c =
     let s = c in
-    sym (length-take-le _ s.args.codeword.now (omega (arith, s.requires.codeword_len.0, blocks-room s.args.a s.args.a.n s.requires.valid (omega arith))))
+    sym (length-take-le _ s.args.codeword.now (omega (arith, s.told-codeword, blocks-room s.args.a s.args.a.n s.requires.valid (omega arith))))
 
 pub slice_bounds-decode-end-2 : goal.slice_bounds-decode-end-2
-slice_bounds-decode-end-2 c = let s = c in omega (arith, s.requires.codeword_len.1, blocks-room s.args.a s.args.a.k s.requires.valid (omega arith))
+slice_bounds-decode-end-2 c = let s = c in omega (arith, s.told-room, blocks-room s.args.a s.args.a.k s.requires.valid (omega arith))
 
 pub slice_bounds-decode-end-3 : goal.slice_bounds-decode-end-3
-slice_bounds-decode-end-3 c = let s = c in sym (length-take-le _ c.args.room.now (omega (arith, s.requires.codeword_len.1, blocks-room s.args.a s.args.a.k s.requires.valid (omega arith))))
+slice_bounds-decode-end-3 c = let s = c in sym (length-take-le _ c.args.room.now (omega (arith, s.told-room, blocks-room s.args.a s.args.a.k s.requires.valid (omega arith))))
 
 pub returns : goal.returns
 returns c =
     let s = c in
-    decode-applied s.args.a s.args.f s.args.codeword.now s.args.room.now _ _ s.requires.valid s.requires.codeword_len.0 s.requires.codeword_len.1
-    s.requires.accepted (c.decode.auto.out ∙ length-take-le _ s.args.room.now (omega (arith, s.requires.codeword_len.1, blocks-room s.args.a s.args.a.k s.requires.valid (omega arith)))) c.decode.ensures
+    decode-applied s.args.a s.args.f s.args.codeword.now s.args.room.now _ _ s.requires.valid s.told-codeword s.told-room
+    s.requires.accepted (c.decode.auto.out ∙ length-take-le _ s.args.room.now (omega (arith, s.told-room, blocks-room s.args.a s.args.a.k s.requires.valid (omega arith)))) c.decode.ensures
