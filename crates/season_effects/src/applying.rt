@@ -169,6 +169,7 @@ fn apply_reconfigure(
     copy_block(codeword, &room[..new]);
     let none = NodeSet(0);
     hand_on(&numbers[..new_nodes], none, 0, &mut serials[..new_nodes]);
+    // written out: the one place that makes Params of a Shape
     Effect {
         params: Params {
             k: shape.k,

@@ -68,7 +68,7 @@ fn last_line(input: &[u8], line: &mut [u8; 65600], number: usize, kind: u8, answ
 }
 
 // The set-up, or an event from a state, in buffers of the lengths that they ask, which are arrays from here on. With other lengths, or from a state that no turn
-// can start from, nothing is done.
+// can start from, nothing is done. (The three buffers are no struct: `BeginPost` and `TurnPost` name each before and after, and `begin` and `turn` take slices.)
 fn in_room(
     input: &[u8],
     from: Option<State>,
