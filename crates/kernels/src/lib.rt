@@ -2,6 +2,7 @@
 // so that what stands behind it can be replaced by something faster.
 #![tactic(auto)]
 
+ghost use Rattle.std.specs.Prelude.{◌≡◌, true, ◌≤◌};
 ghost use Rattle.products.specs.Blocks.{Added};
 
 use tiled_products::{add_short, add_tiled};
@@ -29,6 +30,8 @@ pub fn add_product(
 }
 
 // Whether a product goes in short tiles: two rows or more, few bytes in all, and no more than the eight rows and four columns that short tiles have room for.
-fn prefers_short(rows: usize, b: usize, width: usize) -> bool {
+fn prefers_short(rows: usize, b: usize, width: usize) -> bool
+    ensures { result ≡ true → (rows ≤ 8) × (width ≤ 4) }
+{
     2 <= rows && rows <= 8 && width <= 4 && b <= 512 && rows * b <= 512
 }
