@@ -6,7 +6,6 @@ use Prim.Native.Nat.{ℕ, ◌+◌, ◌-◌, ◌≤◌, ◌<◌}
 use native.Mathlib.Omega.{arith}
 use lib.ListN.{length, take, drop, get_or, length-append, length-drop, get_or-append, get_or-eq_default}
 use lib.Seq.{length-take-le, get_or-take, get_or-drop, get_or-append_right}
-use Rattle.std.proofs.lemmas.List.{get_or_default}
 use Rattle.base.specs.Seq.{tabulate}
 use Rattle.base.proofs.Cases.{lt-or}
 use Rattle.base.specs.Parts.{Filled}
@@ -50,14 +49,18 @@ lent-front f n xs front fits e done =
     place : (q : ℕ) → n ≤ q → n + (q - length front) ≡ q
     place q h = omega (arith, e)
 
-module _ (xs ys : List ℕ) (n : ℕ) (fits : n ≤ length xs) where
-  pub added-front : (t : ℕ) (front : List ℕ) → n ≤ t → Filled (λ q. add (get_or (take n xs) q 0) (get_or ys q 0)) t (take n xs) front
-      → Filled (λ q. add (get_or xs q 0) (get_or ys q 0)) n xs (front ++ drop n xs)
-  added-front t front le s =
+module _ (xs ys : List ℕ) (n : ℕ) (fits : n ≤ length xs) (t : ℕ) (front : List ℕ) (done : n ≤ t) where
+  -- what is written at q may go by the byte that stood there
+  by-front : (f : ℕ → ℕ → ℕ) → Filled (λ q. f q (get_or (take n xs) q 0)) t (take n xs) front
+      → Filled (λ q. f q (get_or xs q 0)) n xs (front ++ drop n xs)
+  by-front f s =
       lent-front _ n xs front fits (s.same ∙ length-take-le n xs fits)
-      (λ q h. s.done q (omega arith) ∙ ap (λ (x : ℕ). add x (get_or ys q 0)) (get_or-take n xs q 0 h))
+      (λ q h. s.done q (omega arith) ∙ ap (f q) (get_or-take n xs q 0 h))
 
-  pub copied-front : n ≤ length ys → Filled (λ q. get_or ys q (get_or xs q 0)) n xs (take n ys ++ drop n xs)
-  copied-front room =
-      lent-front _ n xs (take n ys) fits (length-take-le n ys room)
-      (λ q h. get_or-take n ys q 0 h ∙ get_or_default ys q 0 (get_or xs q 0) (omega arith))
+  pub added-front : Filled (λ q. add (get_or (take n xs) q 0) (get_or ys q 0)) t (take n xs) front
+      → Filled (λ q. add (get_or xs q 0) (get_or ys q 0)) n xs (front ++ drop n xs)
+  added-front = by-front (λ q x. add x (get_or ys q 0))
+
+  pub copied-front : Filled (λ q. get_or ys q (get_or (take n xs) q 0)) t (take n xs) front
+      → Filled (λ q. get_or ys q (get_or xs q 0)) n xs (front ++ drop n xs)
+  copied-front = by-front (λ q x. get_or ys q x)

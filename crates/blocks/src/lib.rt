@@ -16,11 +16,14 @@ pub fn add_block(dst: &mut [u8], src: &[u8])
 }
 
 // dst := src, as far as both go.
+// (A loop and no `copy_from_slice`: that may move bytes within one slice, so the C archive would need `memmove` where it needs `memcpy` and `memset` alone.)
 pub fn copy_block(dst: &mut [u8], src: &[u8])
     ensures { dst.new ≡ over dst.old src.now }
 {
     let size = dst.len().min(src.len());
-    dst[..size].copy_from_slice(&src[..size]);
+    for (p, byte) in dst[..size].iter_mut().enumerate() {
+        *byte = src[p];
+    }
 }
 
 // dst := 0

@@ -50,9 +50,10 @@ pub fn stamp(serials: &mut [u32], set: NodeSet, serial: u32)
 pub fn hand_on(serials: &[u32], set: NodeSet, serial: u32, out: &mut [u32])
     ensures { Stamped (length out.old) (has set.0) serial serials.now out.new }
 {
-    let count = serials.len().min(out.len());
-    out[..count].copy_from_slice(&serials[..count]);
-    out[count..].fill(0);
+    // no `copy_from_slice`, for the reason that blocks::copy_block gives
+    for (at, own) in out.iter_mut().enumerate() {
+        *own = serials.get(at).copied().unwrap_or(0);
+    }
     stamp(out, set, serial);
 }
 
