@@ -1,5 +1,5 @@
 -- A part of a list that was lent and came back changed, told entry by entry, and loops that write a list part by part or block by block. Assumes nothing.
-use mathlib.Core.Path.{◌≡◌, sym, ap, ◌∙◌}
+use mathlib.Core.Path.{◌≡◌, refl, sym, ap, ◌∙◌}
 use mathlib.Core.List.{List, ◌++◌}
 use mathlib.Core.Logic.{⊎_elim}
 use Prim.Native.Nat.{ℕ, suc, ◌+◌, ◌-◌, ◌*◌, ◌≤◌, ◌<◌}
@@ -96,6 +96,9 @@ module _ (b n j : ℕ) (xs ys : List ℕ) (hj : j < n) (hx : n * b ≤ length xs
       (whole ∙ sym (length-lent (j * b) (j * b + b - j * b) xs inside))
 
 -- ---- a loop that writes the blocks of a list one after the other
+
+pub blocked-none : (b n : ℕ) (f : ℕ → ℕ → ℕ) (l : List ℕ) → Blocked b n f 0 l l
+blocked-none b n f l = record { same = refl; done = λ i p h hp. absurd (omega arith); rest = λ i p h hp. refl }
 
 pub blocked-more : (b n : ℕ) (f : ℕ → ℕ → ℕ) (t : ℕ) (old new part : List ℕ) → t < n → length old ≡ n * b → length part ≡ b
     → ((p : ℕ) → p < b → get_or part p 0 ≡ f t p) → Blocked b n f t old new → Blocked b n f (t + 1) old (put_block b t new part)
