@@ -279,6 +279,18 @@ inverse-exists a ha =
 
 -- ---- what the code does with exponents
 
+-- the exponents of a product add up, modulo 255
+pub mul-by-exponents : (a b i j : ℕ) → pow 2 i ≡ a → pow 2 j ≡ b → pow 2 ((i + j) % 255) ≡ mul a b
+mul-by-exponents a b i j p q = pow-mod (i + j) ∙ pow-add 2 i j ∙ ap₂ mul p q
+
+pub inverse-by-exponent : (a i : ℕ) → (a ≡ 0 → ⊥) → i < 255 → pow 2 i ≡ a → Inverse a (pow 2 ((255 - i) % 255))
+inverse-by-exponent a i n h p =
+    record {
+      byte = pow-byte 2 ((255 - i) % 255);
+      of_zero = λ z. absurd (n z);
+      product = λ _. ap (λ (x : ℕ). mul x (pow 2 ((255 - i) % 255))) (sym p) ∙ inverse-of-power i h;
+    }
+
 -- squaring: an even exponent is twice its half, an odd one is one more
 pub pow_even : (a e : ℕ) → e % 2 ≡ 0 → mul (pow a (e / 2)) (pow a (e / 2)) ≡ pow a e
 pow_even a e h = sym (pow-add a (e / 2) (e / 2)) ∙ ap (pow a) (omega arith)
