@@ -91,6 +91,15 @@ placing-zeros s new h placed =
 
 -- what NodeSet::list leaves
 module _ (s : ℕ) (h : s < 2 ^ 32) (old : List ℕ) (count : ℕ) (l : List ℕ) (lists : Listing s old count l) where
+  -- nothing is counted where there is no room
+  counted-room : 0 < count → length old ≡ 32
+  counted-room some = ⊎_elim (λ e. e) (λ none. absurd (omega (arith, (lists.kept none).1))) (eq-or (length old) 32)
+
+  pub node-inside : (i : ℕ) → i < count → i < length old
+  node-inside i hi =
+      let room = counted-room (omega arith) in
+      omega (arith, lists.counted room, size-most s h)
+
   -- as many entries as are counted are there
   pub list-fits : length l ≡ length old → count ≤ length l
   list-fits same =
