@@ -1,4 +1,5 @@
 mod Capped
 mod Items
 mod Openings
+mod ByKind
 pub mod Lengths
