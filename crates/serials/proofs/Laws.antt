@@ -12,10 +12,11 @@ use native.Mathlib.Decide.{le_ind}
 use lib.Bits.{bit_and}
 use lib.Dec.{leb, ltb, eqb}
 use lib.ListN.{length, get_or, get_or-eq_default}
-use lib.Pow.{pow_pos, shr-shr}
+use lib.Pow.{pow_pos, pow_mono, shr-shr}
 use lib.Seq.{ext_get_or}
 use borrow.Author.Tests.{le-leb, lt-leb}
 use Rattle.base.specs.Seq.{one, tabulate}
+use Rattle.base.specs.Parts.{Filled}
 use Rattle.base.proofs.Cases.{lt-or}
 use Rattle.base.proofs.Seq.{length-tabulate, get_d_tabulate}
 use Rattle.params.specs.Nodes.{has}
@@ -88,6 +89,11 @@ module _ {n : ℕ} {f : ℕ → Bool} {serial : ℕ} {old new : List ℕ} where
       go true e = s.taken j h e
       go false e = s.kept j h e
 
+  -- a loop that wrote them
+  pub stamped-filled : (t : ℕ) (before : List ℕ) → length before ≡ n → n ≤ t
+      → Filled (λ j. cond (f (suc j)) serial (get_or old j 0)) t before new → Stamped n f serial old new
+  stamped-filled t before e h s = stamped-by (s.same ∙ e) (λ j hj. s.done j (omega arith))
+
   -- serials stay numbers of 32 bits
   pub stamped-words : serial < 2 ^ 32 → Words32 old → Stamped n f serial old new → Words32 new
   stamped-words h w s j =
@@ -131,7 +137,7 @@ bit_is : (t : Bool) → eqb (one t) 1 ≡ t
 bit_is true = refl
 bit_is false = refl
 
-bit_le : (t : Bool) → one t ≤ 1
+pub bit_le : (t : Bool) → one t ≤ 1
 bit_le true = le_refl 1
 bit_le false = zero-le
 
@@ -181,6 +187,12 @@ older-none serials serial at h k last =
     }
 
 module _ {serials : List ℕ} {serial at word : ℕ} (o : Older serials serial at word) (pos : 0 < at) where
+  -- there is room for one bit more
+  pub older-fits : word < 2 ^ 31
+  older-fits =
+      let h : 2 ^ (32 - at) ≤ 2 ^ 31 = pow_mono {i = 32 - at} {j = 31} (omega arith) in
+      omega (arith, o.small, h)
+
   -- the next lower node
   pub older-more : (b : ℕ) → b ≡ one (ltb (get_or serials (at - 1) 0) serial) → Older serials serial (at - 1) (word * 2 + b)
   older-more b is = subst (λ (x : ℕ). Older serials serial (at - 1) (word * 2 + x)) (sym is) next
@@ -206,6 +218,12 @@ module _ {serials : List ℕ} {serial at word : ℕ} (o : Older serials serial a
             small = omega (arith, ap (λ (k : ℕ). 2 ^ k) e, pow-suc 2 (32 - at), o.small, bit_le t);
             bits = bit;
           }
+
+-- all nodes are passed
+pub older-all : {serials : List ℕ} {serial at word : ℕ} → Older serials serial at word → at ≡ 0 → (j : ℕ) → j < 32
+    → has word (suc j) ≡ early serials serial j
+older-all {serials = serials} {serial = serial} {at = at} o e j h =
+    let p : at + j ≡ j = omega arith in o.bits j (omega arith) ∙ ap (early serials serial) p
 
 -- there is no node 0
 no_node : (s : ℕ) → has s 0 ≡ false
