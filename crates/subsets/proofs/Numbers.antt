@@ -175,13 +175,13 @@ module _ (s : ℕ) (some : 0 < s) (word : s < 2 ^ 32) where
   low-is =
       ap (count_trailing_zeros 32) (w.is ∙ ap (λ (x : ℕ). x * 2 ^ w.a) (top-odd w.h w.m)) ∙ trailing-of 32 w.a (top w.h w.m / 2) a_lt
 
-  low-lt : low s < 32
+  pub low-lt : low s < 32
   low-lt = omega (arith, low-is, a_lt)
 
   carried-is : carried s ≡ s + 2 ^ w.a
   carried-is = omega (arith, wide-shifted (low s) (omega (arith, low-lt)), ap (λ (x : ℕ). 2 ^ x) low-is)
 
-  carried-lt : carried s < 2 ^ 33
+  pub carried-lt : carried s < 2 ^ 33
   carried-lt = omega (arith, carried-is, power_le)
 
   carried-odd : carried s ≡ (w.h * 2 + 1) * 2 ^ (w.a + suc w.m)
@@ -201,10 +201,10 @@ module _ (s : ℕ) (some : 0 < s) (word : s < 2 ^ 32) where
   others-is : others s ≡ w.m
   others-is = omega (arith, low-is, high_is)
 
-  others-lt : others s < 32
+  pub others-lt : others s < 32
   others-lt = omega (arith, others-is, ends-lt)
 
-  others-shifted : 1 * 2 ^ others s % 2 ^ 64 ≡ 2 ^ others s
+  pub others-shifted : 1 * 2 ^ others s % 2 ^ 64 ≡ 2 ^ others s
   others-shifted = wide-shifted (others s) (omega (arith, others-lt))
 
   pub next-above : Above s (carried s + (1 * 2 ^ others s % 2 ^ 64 - 1))
