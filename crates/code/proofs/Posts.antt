@@ -10,6 +10,9 @@ use Rattle.code.specs.Calls.{Post}
 pub served : {S R : Type 0} (gate : ℕ) → gate ≡ 0 → S → Post gate 0 S R
 served gate e s = record { number = sym e; served = λ _. s; refused = λ n. absurd (n refl) }
 
+pub refused-by-number : {S R : Type 0} (gate answer : ℕ) → answer ≡ gate → (answer ≡ 0 → ⊥) → R → Post gate answer S R
+refused-by-number gate answer e n r = record { number = e; served = λ z. absurd (n z); refused = λ _. r }
+
 -- where the gate's `?` returns
 pub refused : {A S R : Type 0} (gate : ℕ) (q : Refusal) (result : Result A Refusal) → IsErrAnd result (λ p. p ≡ q) → number q ≡ gate → R
     → Post gate (answer result) S R
