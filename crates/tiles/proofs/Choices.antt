@@ -3,7 +3,7 @@
 use mathlib.Core.Path.{◌≡◌, refl, sym, ap, ap₂, ◌∙◌, subst, subst⁻¹}
 use mathlib.Core.List.{List}
 use mathlib.Core.Logic.{⊎_elim}
-use Prim.Native.Nat.{ℕ, zero, suc, ◌+◌, ◌-◌, ◌*◌, ◌^◌, ◌≤◌, ◌<◌}
+use Prim.Native.Nat.{ℕ, zero, suc, ◌+◌, ◌-◌, ◌*◌, ◌^◌, ◌≤◌, ◌<◌, min}
 use native.Mathlib.Nat.{suc-mul, add-mul, zero-mul, mul-le-mul_right, not-suc-le-zero, le_of_suc-le-suc}
 use native.Mathlib.Omega.{arith}
 use borrow.Rule.Slice.PartMut.{put_mid, same_len_mid}
@@ -23,6 +23,7 @@ use Rattle.blocks.specs.Bytes.{over}
 use Rattle.blocks.proofs.Laws.{plus-length, plus-at, over-length, over-at, over-past, over-same}
 use Rattle.picks.specs.Picks.{number}
 use Rattle.picks.proofs.Digits.{number-below, number-front}
+use Rattle.products.specs.Blocks.{Inside}
 use Rattle.products.proofs.Stretches.{stretch, length-stretch, stretch-at}
 use Rattle.tiles.specs.Tiling.{Grouped, columns, tile_at, Raised, Chosen, Tabled}
 use Rattle.tiles.proofs.Groups.{columns-size, columns-most}
@@ -32,7 +33,7 @@ unfolding cell
 tile-byte b at src places bytes k p = bytes (get_or places k 0 * b + (at + p))
 
 -- a copy of ys with zeros behind it
-copy_at : (n : ℕ) (ys copy : List ℕ) → length ys ≤ n → copy ≡ over (replicate n 0) ys → (p : ℕ) → get_or copy p 0 ≡ get_or ys p 0
+pub copy_at : (n : ℕ) (ys copy : List ℕ) → length ys ≤ n → copy ≡ over (replicate n 0) ys → (p : ℕ) → get_or copy p 0 ≡ get_or ys p 0
 copy_at n ys copy h e p =
     ap (λ (l : List ℕ). get_or l p 0) e
     ∙ ⊎_elim (λ (lt : p < length ys). over-at (replicate n 0) ys p (omega (arith, size)) lt)
@@ -189,6 +190,12 @@ module _ (t w : ℕ) (wt : w ≤ t) (x : ℕ → ℕ → ℕ) (old : List ℕ) w
 in_group : (t g n p : ℕ) → (g * 32 + n) * t + p ≡ g * 32 * t + (n * t + p)
 in_group t g n p = omega (arith, add-mul (g * 32) n t)
 
+-- the places of a group name blocks too
+pub group-inside : (b j r src : ℕ) (places : List ℕ) → j + r ≤ length places → Inside b places src → Inside b (stretch j r places) src
+group-inside b j r src places h f k hk =
+    let lt : k < r = omega (arith, length-stretch j r places h) in
+    subst⁻¹ (λ (q : ℕ). suc q * b ≤ src) (stretch-at j r places k lt) (f (j + k) (omega arith))
+
 module _ (t b at w size : ℕ) (src places old : List ℕ) where
   pub tabled-none : Tabled t b at w size src places 0 old old
   tabled-none = record { same = refl; entry = λ g d p hg. absurd (omega arith) }
@@ -250,3 +257,28 @@ module _ (t b at w size : ℕ) (src places old : List ℕ) where
           ∙ put_in first span new group inside full (number (columns size (length places) h) d * t + p) (omega (arith, small h size size d p hd hp (columns-size size (length places) h) (omega arith), begins))
           ∙ own.entry d p hd hp
           ∙ sum-ext (columns size (length places) h) _ _ (λ i hi. ap (λ (q : ℕ). mul (d i) (cell b src q (at + p))) (stretch-at (h * size) r places i (omega arith)))
+
+-- or the table of one group
+pub tabled-one : (t b at w : ℕ) (src places old new : List ℕ) → Chosen t w (length places) (tile_at b at src places) old new → Tabled t b at w (length places) src places 1 old new
+unfolding columns
+tabled-one t b at w src places old new s =
+    record {
+      same = s.same;
+      entry = λ g d p hg hd hp.
+          let none : g ≡ 0 = omega arith in
+          subst⁻¹ (λ (k : ℕ). Entry k d p) none (first d p hd hp);
+    }
+  where
+    Entry : ℕ → (ℕ → ℕ) → ℕ → Type 0
+    Entry g d p =
+        cell t new (g * 32 + number (min (length places) (length places - g * length places)) d) p
+        ≡ sum (min (length places) (length places - g * length places)) (λ k. mul (d k) (tile_at b at src places (g * length places + k) p))
+
+    all : length places ≡ min (length places) (length places - 0 * length places)
+    all = omega (arith, zero-mul (length places))
+
+    first : (d : ℕ → ℕ) (p : ℕ) → ((k : ℕ) → d k < 2) → p < w → Entry 0 d p
+    first d p hd hp =
+        subst (λ (m : ℕ). cell t new (0 * 32 + number m d) p ≡ sum m (λ k. mul (d k) (tile_at b at src places (0 * length places + k) p))) all
+        (ap (λ (n : ℕ). cell t new n p) (omega arith) ∙ s.entry d p hd hp
+        ∙ sum-ext (length places) _ _ (λ k hk. ap (λ (i : ℕ). mul (d k) (tile_at b at src places i p)) (omega (arith, zero-mul (length places)))))

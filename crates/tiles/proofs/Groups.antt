@@ -47,10 +47,10 @@ grouped {n} {groups} {size} r e f h = grouped-first size n groups e f r.begins h
 
 -- at most 32 columns make such groups, at most seven
 module _ (n : ℕ) (n32 : n ≤ 32) where
-  few-groups : groups_of n ≤ 7
+  pub few-groups : groups_of n ≤ 7
   few-groups = omega arith
 
-  grouping : Grouped n (groups_of n) (size_of n)
+  pub grouping : Grouped n (groups_of n) (size_of n)
   grouping =
       record {
         few = few;
@@ -63,6 +63,13 @@ module _ (n : ℕ) (n32 : n ≤ 32) where
 
       last : (g : ℕ) → g < groups_of n → g ≤ groups_of n - 1
       last g hg = omega arith
+
+-- or one group, of all
+pub one-group : (n : ℕ) → n ≤ 5 → Grouped n 1 n
+one-group n h = record { few = h; begins = λ g hg. omega (arith, mul-le-mul_right n (first g hg)); all = omega arith }
+  where
+    first : (g : ℕ) → g < 1 → g ≤ 0
+    first g hg = omega arith
 
 -- at most 32 columns, in groups as the code counts them
 pub all-grouped : (n groups size : ℕ) → n ≤ 32 → groups ≡ groups_of n → size ≡ size_of n → Grouped n groups size

@@ -1,9 +1,10 @@
 -- The picks of a row, group by group, and of all rows. Assumes nothing.
-use mathlib.Core.Path.{◌≡◌, sym, ap, ◌∙◌}
+use mathlib.Core.Path.{◌≡◌, refl, sym, ap, ◌∙◌}
 use mathlib.Core.List.{List}
 use mathlib.Core.Logic.{⊎_elim}
-use Prim.Native.Nat.{ℕ, ◌+◌, ◌-◌, ◌*◌, ◌≤◌, ◌<◌}
+use Prim.Native.Nat.{ℕ, ◌+◌, ◌-◌, ◌*◌, ◌≤◌, ◌<◌, min}
 use borrow.Rule.Slice.PartMut.{put_mid, same_len_mid}
+use native.Mathlib.Nat.{zero-mul}
 use native.Mathlib.Omega.{arith}
 use lib.ListN.{length, get_or}
 use Rattle.base.specs.Seq.{tabulate, cell}
@@ -22,7 +23,7 @@ part-picks a n coeffs s h =
     ap (λ (m : ℕ). number m (λ k. bit s (get_or (stretch a n coeffs) k 0))) (length-stretch a n coeffs h)
     ∙ number-ext n _ _ (λ k hk. ap (bit s) (stretch-at a n coeffs k hk))
 
--- of group g
+-- of group g, and of a whole row as one group
 module _ (size : ℕ) (coeffs : List ℕ) (g n : ℕ) (old bytes : List ℕ) (size8 : length old ≡ 8) (few : n ≤ 5) (ends : g * size + n ≤ length coeffs)
     (count : n ≡ columns size (length coeffs) g) (p : Picks (stretch (g * size) n coeffs) old bytes) where
   group-bytes : bytes ≡ tabulate 8 (pick_of (stretch (g * size) n coeffs))
@@ -36,7 +37,25 @@ module _ (size : ℕ) (coeffs : List ℕ) (g n : ℕ) (old bytes : List ℕ) (si
       ap (λ (l : List ℕ). get_or l s 0) group-bytes ∙ get_d_tabulate 8 _ s hs ∙ part-picks (g * size) n coeffs s ends
       ∙ ap (λ (m : ℕ). number m (λ k. bit s (get_or coeffs (g * size + k) 0))) count
 
+module _ (size : ℕ) (coeffs old bytes : List ℕ) (size8 : length old ≡ 8) (few : size ≤ 5) (all : length coeffs ≡ size) (p : Picks coeffs old bytes) where
+  whole-bytes : bytes ≡ tabulate 8 (pick_of coeffs)
+  whole-bytes = p.written size8 (omega arith)
+
+  pub whole-eight : length bytes ≡ 8
+  whole-eight = ap length whole-bytes ∙ length-tabulate 8 _
+
+  pub whole-picks : (s : ℕ) → s < 8 → get_or bytes s 0 ≡ number (columns size (length coeffs) 0) (λ k. bit s (get_or coeffs (0 * size + k) 0))
+  unfolding pick_of columns
+  whole-picks s hs =
+      let count : length coeffs ≡ min size (length coeffs - 0 * size) = omega (arith, zero-mul size) in
+      ap (λ (l : List ℕ). get_or l s 0) whole-bytes ∙ get_d_tabulate 8 _ s hs
+      ∙ number-ext (length coeffs) _ _ (λ k hk. let e : k ≡ 0 * size + k = omega (arith, zero-mul size) in ap (λ (q : ℕ). bit s (get_or coeffs q 0)) e)
+      ∙ ap (λ (m : ℕ). number m (λ k. bit s (get_or coeffs (0 * size + k) 0))) count
+
 -- ---- a row of picks
+
+pub row-none : (i size : ℕ) (coeffs l : List ℕ) → RowPicked i size coeffs 0 l l
+row-none i size coeffs l = record { same = refl; done = λ g s hg hs. absurd (omega arith); rest = λ g j s ne hs hj. refl }
 
 -- the picks of group g, written at their place
 module _ (i size : ℕ) (coeffs : List ℕ) (g at : ℕ) (old new bytes : List ℕ) (hi : i < 32) (ea : at ≡ g * 256 + i * 8) (room : at + 8 ≤ length new) (eight : length bytes ≡ 8)
@@ -77,6 +96,9 @@ module _ (i size : ℕ) (coeffs : List ℕ) (g at : ℕ) (old new bytes : List �
       }
 
 -- ---- the picks of all rows
+
+pub picked_none : (stride : ℕ) (coeffs : List ℕ) (n groups size : ℕ) (l : List ℕ) → Picked 0 stride coeffs n groups size l l
+picked_none stride coeffs n groups size l = record { same = refl; pick = λ g s i hg hs hi. absurd (omega arith) }
 
 pub picked_more : (i stride : ℕ) (coeffs : List ℕ) (n groups size : ℕ) (old new last : List ℕ) → i < 32 → i * stride + n ≤ length coeffs
     → RowPicked i size (row_of stride n i coeffs) groups new last → Picked i stride coeffs n groups size old new

@@ -174,6 +174,9 @@ pub record Tiled (b : ℕ) (f : ℕ → ℕ → ℕ) (at : ℕ) (old new : List 
   pub done : (j p : ℕ) → p < at → p < b → cell b new j p ≡ f j p
   pub rest : (j p : ℕ) → at ≤ p → p < b → cell b new j p ≡ cell b old j p
 
+pub tiled-none : (b : ℕ) (f : ℕ → ℕ → ℕ) (old : List ℕ) → Tiled b f 0 old old
+tiled-none b f old = record { same = refl; done = λ j p hp. absurd (omega arith); rest = λ j p hp hb. refl }
+
 -- one more tile of every block
 pub tiled-more : (b at w stride : ℕ) (src targets places coeffs old : List ℕ) (f : ℕ → ℕ → ℕ) (mid new : List ℕ) → at + w ≤ b
     → ((i p : ℕ) → i < length targets → p < w → f i p ≡ product b src places coeffs stride i (at + p))
