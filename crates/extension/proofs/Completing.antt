@@ -19,6 +19,11 @@ use Rattle.placing.specs.Placed.{ClearPost}
 use Rattle.extension.specs.Blocks.{CompleteAsks, CompletePost}
 use Rattle.extension.specs.Extending.{Extendable, Extended}
 
+pub complete-idle : (b e at targets : ℕ) (message z l : List ℕ) → (CompleteAsks b e at targets (length message) (length z) (length l) → ⊥)
+    → CompletePost b e at targets message z l l
+complete-idle b e at targets message z l none =
+    record { same = refl; written = λ ok. absurd (none ok); others = λ j p h hp. refl; kept = λ _. refl }
+
 -- the blocks of z one after the other, and the targets' own blocks
 module _ (b e at targets q rows : ℕ) (places order message z old : List ℕ) (word : at < 2 ^ 32) (word' : targets < 2 ^ 32) (hq : q ≡ size at)
     (hr : rows ≡ size targets) (told : places ≡ places_of targets) (ordered : order ≡ in_order)
