@@ -24,7 +24,6 @@ use Rattle.code.specs.Calls.{Serves}
 use Rattle.std.specs.Prelude.{Option, Some, None, is_some}
 use Rattle.params.specs.declared.Node.{Node}
 use Rattle.consistency.specs.Tested.{Testable, Tested}
-use Rattle.probes.specs.declared.Probes.{Probes}
 use Rattle.probes.specs.Probes.{Probeable, probe, Probed, PlacesIn, picked_byte}
 
 probe-valid : (a : Params) (m : ℕ) → Valid a → 1 ≤ m → m ≤ a.b → Valid (probe a m)
@@ -49,30 +48,31 @@ named a s most word (Some node) answer is e told = told
 named a s most word None answer is e told = absurd (true≢false (sym e ∙ is))
 
 -- what is asked where a set is tried at the probes that there are
-pub probeable : {a : Params} {s codeword fresh : ℕ} {word : List ℕ} {probes : Probes} → Testable a s codeword fresh → Probed a word probes
-    → Probeable a s probes.count fresh
-probeable test told = record { valid = test.check.valid; most = told.most; inside = test.inside; few = test.few; room = test.room }
+pub probeable : (a : Params) (s codeword fresh : ℕ) (word : List ℕ) (m : ℕ) (places picked : List ℕ) → Testable a s codeword fresh
+    → Probed a word m places picked → Probeable a s m fresh
+probeable a s codeword fresh word m places picked test told =
+    record { valid = test.check.valid; most = told.most; inside = test.inside; few = test.few; room = test.room }
 
-module _ {a : Params} {codeword : List ℕ} {probes : Probes} (told : Probed a codeword probes) where
+module _ (a : Params) (codeword : List ℕ) (m : ℕ) (places picked : List ℕ) (told : Probed a codeword m places picked) where
   -- the parts' bytes at the places
   abbrev at_places : ℕ → List ℕ → List ℕ
-  at_places count xs = blocks probes.count count (λ j i. cell a.b xs j (get_or probes.places i 0))
+  at_places count xs = blocks m count (λ j i. cell a.b xs j (get_or places i 0))
 
-  parts : (count : ℕ) (xs : List ℕ) → Parts a.b count xs → Parts probes.count count (at_places count xs)
+  parts : (count : ℕ) (xs : List ℕ) → Parts a.b count xs → Parts m count (at_places count xs)
   parts count xs h =
       record {
-        length_is = length-blocks probes.count count (λ j i. cell a.b xs j (get_or probes.places i 0));
-        bytes = bytes-blocks probes.count count (λ j i. cell a.b xs j (get_or probes.places i 0)) (λ j i. cell-byte a.b xs j (get_or probes.places i 0) h.bytes);
+        length_is = length-blocks m count (λ j i. cell a.b xs j (get_or places i 0));
+        bytes = bytes-blocks m count (λ j i. cell a.b xs j (get_or places i 0)) (λ j i. cell-byte a.b xs j (get_or places i 0) h.bytes);
       }
 
-  block-picked : (x v : List ℕ) (j i : ℕ) → i < probes.count
-      → block (probe a probes.count) (at_places a.k x) (at_places (slack_parts a) v) (suc j) i ≡ block a x v (suc j) (get_or probes.places i 0)
+  block-picked : (x v : List ℕ) (j i : ℕ) → i < m
+      → block (probe a m) (at_places a.k x) (at_places (slack_parts a) v) (suc j) i ≡ block a x v (suc j) (get_or places i 0)
   unfolding block slack_parts
   block-picked x v j i hi =
-      evaluate-ext a.k (a.n - a.w) _ _ _ _ (point (suc j)) (λ e he. cell-blocks probes.count a.k (λ j i. cell a.b x j (get_or probes.places i 0)) e i he hi)
-      (λ e he. cell-blocks probes.count (a.n - a.w) (λ j i. cell a.b v j (get_or probes.places i 0)) e i he hi)
+      evaluate-ext a.k (a.n - a.w) _ _ _ _ (point (suc j)) (λ e he. cell-blocks m a.k (λ j i. cell a.b x j (get_or places i 0)) e i he hi)
+      (λ e he. cell-blocks m (a.n - a.w) (λ j i. cell a.b v j (get_or places i 0)) e i he hi)
 
-  pub picked-serves : (s : ℕ) → Serves a codeword s → Serves (probe a probes.count) (take (a.n * probes.count) probes.picked) s
+  pub picked-serves : (s : ℕ) → Serves a codeword s → Serves (probe a m) (take (a.n * m) picked) s
   unfolding slack_parts
   picked-serves s h =
       record {
@@ -86,8 +86,8 @@ module _ {a : Params} {codeword : List ℕ} {probes : Probes} (told : Probed a c
                     slack = parts (slack_parts a) h.slack h.gives.pair.slack;
                   };
               equal = λ j i hj e hi.
-                  block-picked h.message h.slack j i hi ∙ h.gives.equal j (get_or probes.places i 0) hj e (told.inside i hi)
-                  ∙ sym (told.holds j i hj hi) ∙ sym (cell-take probes.count a.n probes.picked j i hj hi);
+                  block-picked h.message h.slack j i hi ∙ h.gives.equal j (get_or places i 0) hj e (told.inside i hi)
+                  ∙ sym (told.holds j i hj hi) ∙ sym (cell-take m a.n picked j i hj hi);
             };
       }
 
@@ -124,25 +124,20 @@ module _ (b m : ℕ) (places : List ℕ) (place : ℕ) (long : length places ≡
       let h : i < m + 1 = omega (arith, lent_length m places place long room) in
       subst (λ (x : ℕ). x < b) (sym (get_or-take (m + 1) (set places m place) i 0 h)) (places-in i h)
 
-pub probed-more : {a : Params} {codeword : List ℕ} {probes new : Probes} {place : ℕ} → Probed a codeword probes → length probes.places ≡ 32 → probes.count < 32
-    → probes.count < a.b → place < a.b → new.count ≡ probes.count + 1 → new.places ≡ set probes.places probes.count place
-    → Filled (picked_byte a codeword (take (probes.count + 1) (set probes.places probes.count place)))
-    (a.n * length (take (probes.count + 1) (set probes.places probes.count place))) probes.picked new.picked
-    → Probed a codeword new
+pub probed-more : (a : Params) (codeword : List ℕ) (m : ℕ) (places picked picked' : List ℕ) (place : ℕ) → Probed a codeword m places picked
+    → length places ≡ 32 → m < 32 → m < a.b → place < a.b
+    → Filled (picked_byte a codeword (take (m + 1) (set places m place))) (a.n * length (take (m + 1) (set places m place))) picked picked'
+    → Probed a codeword (m + 1) (set places m place) picked'
 unfolding cell
-probed-more {a} {codeword} {probes} {new} {place} told long room fits here count_is places_are done =
+probed-more a codeword m places picked picked' place told long room fits here done =
     record {
-      most = omega (arith, count_is);
-      inside = λ i hi.
-          subst (λ (xs : List ℕ). get_or xs i 0 < a.b) (sym places_are)
-          (places-in a.b probes.count probes.places place long room here told.inside i (omega (arith, count_is)));
+      most = omega arith;
+      inside = places-in a.b m places place long room here told.inside;
       holds = λ j i hj hi.
-          let m = probes.count in
-          let count = lent_length m probes.places place long room in
-          let h : i < length (take (m + 1) (set probes.places m place)) = omega (arith, count, count_is) in
-          ap (λ (c : ℕ). get_or new.picked (j * c + i) 0) (count_is ∙ sym count)
-          ∙ done.done (j * length (take (m + 1) (set probes.places m place)) + i) (cell-lt _ a.n j i hj h)
-          ∙ ap₂ (λ (x y : ℕ). cell a.b codeword x (get_or (take (m + 1) (set probes.places m place)) y 0)) (digits_div j h) (digits_mod j h)
-          ∙ ap (cell a.b codeword j)
-          (get_or-take (m + 1) (set probes.places m place) i 0 (omega (arith, count_is)) ∙ ap (λ (xs : List ℕ). get_or xs i 0) (sym places_are));
+          let count = lent_length m places place long room in
+          let h : i < length (take (m + 1) (set places m place)) = omega (arith, count) in
+          ap (λ (c : ℕ). get_or picked' (j * c + i) 0) (sym count)
+          ∙ done.done (j * length (take (m + 1) (set places m place)) + i) (cell-lt _ a.n j i hj h)
+          ∙ ap₂ (λ (x y : ℕ). cell a.b codeword x (get_or (take (m + 1) (set places m place)) y 0)) (digits_div j h) (digits_mod j h)
+          ∙ ap (cell a.b codeword j) (get_or-take (m + 1) (set places m place) i 0 hi);
     }

@@ -6,8 +6,8 @@ ghost use Rattle.probes.specs.Probes.{PickAsks, PlacesIn, picked_byte};
 use params::Params;
 
 // For each node, the bytes of its block at the places go to the front of picked, one node after the other, as long as the places are places of a block.
-pub(crate) fn pick(a: Params, codeword: &[u8], places: &[usize], picked: &mut [u8; 1024])
-    requires { PickAsks a (length codeword.now) (length places.now) }
+pub(crate) fn pick(a: Params, codeword: &[u8], places: &[usize], picked: &mut [u8])
+    requires { PickAsks a (length codeword.now) (length places.now) (length picked.old) }
     ensures { PlacesIn a.b places.now → Filled (picked_byte a codeword.now places.now) (a.n * length places.now) picked.old picked.new }
 {
     let count = places.len();

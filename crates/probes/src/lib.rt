@@ -4,12 +4,25 @@
 
 mod at_places;
 
-ghost use Rattle.std.specs.Prelude.{◌≤◌};
+ghost use Rattle.std.specs.Prelude.{◌≡◌, true, List, ℕ, ◌*◌, ◌≤◌, length, take};
+ghost use Rattle.base.specs.Decided.{Decided};
+ghost use Rattle.params.specs.declared.Params.{Params};
+ghost use Rattle.code.specs.Calls.{Serves};
+ghost use Rattle.consistency.specs.Tested.{Testable};
+ghost use Rattle.probes.specs.Probes.{Trial, Probeable, Probed, probe, probes_then};
 
 use at_places::pick;
 use base::is_product;
 use consistency::{other_node, place_of};
 use params::{NodeSet, Params};
+
+// What trying a set tells.
+#[derive(Clone, Copy)]
+pub enum Outcome {
+    Serves,
+    // how many probes there are then
+    Fails(usize),
+}
 
 // The first places are the probes; at the front of picked are, for each node, the bytes of its block there, one node after the other.
 #[derive(Clone, Copy)]
@@ -21,15 +34,8 @@ pub struct Probes {
 }
 
 impl Probes {
-    ghost use Rattle.std.specs.Prelude.{◌≡◌, true, List, ℕ, ◌*◌, length, take};
-    ghost use Rattle.base.specs.Decided.{Decided};
-    ghost use Rattle.params.specs.declared.Params.{Params};
-    ghost use Rattle.code.specs.Calls.{Serves};
-    ghost use Rattle.consistency.specs.Tested.{Testable};
-    ghost use Rattle.probes.specs.Probes.{Probeable, Probed, probe};
-
     pub fn new() -> Self
-        ensures { (a : Params) (codeword : List ℕ) → Probed a codeword result }
+        ensures { (a : Params) (codeword : List ℕ) → Probed a codeword result.count result.places result.picked }
     {
         Probes {
             count: 0,
@@ -38,48 +44,102 @@ impl Probes {
         }
     }
 
-    // Whether the set serves: at the probes first; where it passes there, all bytes tell, and a place where it fails becomes a probe.
+    // What try_set does, with these probes.
     pub fn try_set(&mut self, a: Params, codeword: &[u8], set: NodeSet, fresh: &mut [u8]) -> bool
-        ensures told { Testable a set.0 (length codeword.now) (length fresh.old) → Probed a codeword.now self.old → Decided (Serves a codeword.now set.0) result }
-        ensures probed { Probed a codeword.now self.old → Probed a codeword.now self.new }
+        ensures told { Testable a set.0 (length codeword.now) (length fresh.old) → Probed a codeword.now self.old.count self.old.places self.old.picked → Decided (Serves a codeword.now set.0) result }
+        ensures probed { Probed a codeword.now self.old.count self.old.places self.old.picked → Probed a codeword.now self.new.count self.new.places self.new.picked }
     {
-        if self.fails_at(a, set, fresh) {
-            return false;
+        match try_set(
+            a,
+            codeword,
+            set,
+            self.count,
+            fresh,
+            &mut self.places,
+            &mut self.picked,
+        ) {
+            Outcome::Serves => true,
+            Outcome::Fails(count) => {
+                self.count = count;
+                false
+            }
         }
-        let Some(node) = other_node(a, codeword, set, 32, fresh) else {
-            return true;
-        };
-        if let Some(place) = place_of(a, codeword, set, node, fresh) {
-            self.add(a, codeword, place);
-        }
-        false
     }
 
-    // Whether the set fails for the bytes at the probes: the lowest node behind the q that make the pair is compared first, since most sets fail there.
-    fn fails_at(&self, a: Params, set: NodeSet, fresh: &mut [u8]) -> bool
-        ensures { Probeable a set.0 self.now.count (length fresh.old) → result ≡ true → Serves (probe a self.now.count) (take (a.n * self.now.count) self.now.picked) set.0 → ⊥ }
-    {
-        if self.count < 1 || 32 < a.n {
-            return false;
-        }
-        let p = Params { b: self.count, ..a };
-        let bytes = &self.picked[..a.n * self.count];
-        other_node(p, bytes, set, 1, fresh).is_some()
-            || other_node(p, bytes, set, 32, fresh).is_some()
-    }
-
-    // One probe more, at the place. Where that is no place of a block, where there is no room, or codeword has not just n blocks, nothing changes.
+    // What add_probe does, with these probes.
     pub fn add(&mut self, a: Params, codeword: &[u8], place: usize)
-        ensures { Probed a codeword.now self.old → Probed a codeword.now self.new }
+        ensures { Probed a codeword.now self.old.count self.old.places self.old.picked → Probed a codeword.now self.new.count self.new.places self.new.picked }
     {
-        if a.b <= place || 32 < a.n || !is_product(codeword.len(), a.n, a.b) {
-            return;
-        }
-        if a.b <= self.count || 32 <= self.count {
-            return;
-        }
-        self.places[self.count] = place;
-        self.count += 1;
-        pick(a, codeword, &self.places[..self.count], &mut self.picked);
+        self.count = add_probe(
+            a,
+            codeword,
+            place,
+            self.count,
+            &mut self.places,
+            &mut self.picked,
+        );
     }
+}
+
+// Whether the set serves: at the probes first; where it passes there, all bytes tell, and a place where it fails becomes a probe.
+pub fn try_set(
+    a: Params,
+    codeword: &[u8],
+    set: NodeSet,
+    probes: usize,
+    fresh: &mut [u8],
+    places: &mut [usize],
+    picked: &mut [u8],
+) -> Outcome
+    ensures told { Testable a set.0 (length codeword.now) (length fresh.old) → Probed a codeword.now probes places.old picked.old → Trial a set.0 codeword.now places.new picked.new result }
+    ensures probed { Probed a codeword.now probes places.old picked.old → Probed a codeword.now (probes_then probes result) places.new picked.new }
+    ensures few { probes ≤ 32 → probes_then probes result ≤ 32 }
+{
+    if fails_at(a, set, probes, picked, fresh) {
+        return Outcome::Fails(probes);
+    }
+    let Some(node) = other_node(a, codeword, set, 32, fresh) else {
+        return Outcome::Serves;
+    };
+    let Some(place) = place_of(a, codeword, set, node, fresh) else {
+        return Outcome::Fails(probes);
+    };
+    Outcome::Fails(add_probe(a, codeword, place, probes, places, picked))
+}
+
+// Whether the set fails for the bytes at the probes: the lowest node behind the q that make the pair is compared first, since most sets fail there.
+fn fails_at(a: Params, set: NodeSet, probes: usize, picked: &[u8], fresh: &mut [u8]) -> bool
+    ensures { Probeable a set.0 probes (length fresh.old) → result ≡ true → Serves (probe a probes) (take (a.n * probes) picked.now) set.0 → ⊥ }
+{
+    if probes < 1 || 32 < probes || 32 < a.n || picked.len() < a.n * probes {
+        return false;
+    }
+    let p = Params { b: probes, ..a };
+    let bytes = &picked[..a.n * probes];
+    other_node(p, bytes, set, 1, fresh).is_some() || other_node(p, bytes, set, 32, fresh).is_some()
+}
+
+// One probe more, at the place; the answer is how many there are then. Where that is no place of a block, where there is no room, or codeword has not just n blocks,
+// there are as many as before.
+pub fn add_probe(
+    a: Params,
+    codeword: &[u8],
+    place: usize,
+    probes: usize,
+    places: &mut [usize],
+    picked: &mut [u8],
+) -> usize
+    ensures probed { Probed a codeword.now probes places.old picked.old → Probed a codeword.now result places.new picked.new }
+    ensures few { probes ≤ 32 → result ≤ 32 }
+{
+    if a.b <= place || 32 < a.n || !is_product(codeword.len(), a.n, a.b) {
+        return probes;
+    }
+    if a.b <= probes || 32 <= probes || places.len() != 32 || picked.len() != 1024 {
+        return probes;
+    }
+    places[probes] = place;
+    let count = probes + 1;
+    pick(a, codeword, &places[..count], picked);
+    count
 }

@@ -1,6 +1,7 @@
 -- Nothing may be tried, or the empty set serves, or the sets behind it are tried. Assumes nothing.
 use mathlib.Core.Path.{subst⁻¹, ◌∙◌}
 use native.Mathlib.Omega.{arith}
+use Rattle.probes.specs.declared.Probes.{Probes}
 use Rattle.probes.specs.Probes.{Probed}
 use Rattle.checking.proofs.Search.{search-none, first-testable, first_found, search-start, search-next, search-testable, search-found, search-stopped}
 use Rattle.checking.proofs.searching.search.Goals.{in-Some-place_of, in_default-place_of}
@@ -19,11 +20,12 @@ returns-in_default c =
 
 pub loop-tried-init : goal.loop-tried-init
 loop-tried-init c =
-    let told : Probed c.args.a c.args.codeword.now c.match-place_of.probes = elim c.match-place_of.branch [
-      | in-Some-place_of w ↦ subst⁻¹ (Probed c.args.a c.args.codeword.now) w.probes-is (w.add.ensures (c.new-probes.ensures _ _))
-      | in_default-place_of w ↦ subst⁻¹ (Probed c.args.a c.args.codeword.now) w.probes-is (c.new-probes.ensures _ _)
+    let held = λ (p : Probes). Probed c.args.a c.args.codeword.now p.count p.places p.picked in
+    let told : held c.match-place_of.probes = elim c.match-place_of.branch [
+      | in-Some-place_of w ↦ subst⁻¹ held w.probes-is (w.add.ensures (c.new-probes.ensures _ _))
+      | in_default-place_of w ↦ subst⁻¹ held w.probes-is (c.new-probes.ensures _ _)
     ] in
-    search-next (search-start c.requires told) (λ j. omega (arith, c.type_inv.codeword j)) (omega arith)
+    search-next (search-start {probes = c.match-place_of.probes} c.requires told) (λ j. omega (arith, c.type_inv.codeword j)) (omega arith)
     (c.in-Some.ensures (first-testable _ _ _ c.requires)) told (c.place_of.auto.fresh ∙ c.other_node.auto.fresh) c.next-set.ensures
 
 pub returns-then-try_set : goal.returns-then-try_set

@@ -11,4 +11,4 @@ pub loop-at-preserved : goal.loop-at-preserved
 unfolding cell
 loop-at-preserved c =
     let room : c.loop-at.at < 1024 = omega (arith, c.loop-at-test.true, areas-fit c.args.a.n (length c.args.places.now) c.requires.n_high c.requires.most) in
-    filled_more _ c.loop-at.at _ _ _ (omega (arith, room, c.loop-at.invariant.same, c.told-picked)) refl c.loop-at.invariant
+    filled_more _ c.loop-at.at _ _ _ (omega (arith, room, c.loop-at.invariant.same, c.requires.room)) refl c.loop-at.invariant
