@@ -1,19 +1,18 @@
 -- Rows over nodes, from those over points: what they ask of a set, and what they take to what, told by the nodes' points. Assumes nothing.
-use mathlib.Core.Path.{◌≡◌, sym, ap, ap₂, ◌∙◌}
-use mathlib.Core.Bool.{Bool, true, false, not, ◌&&◌}
-use mathlib.Core.List.{List}
+use mathlib.Core.Path.{◌≡◌, sym, ap, ◌∙◌}
+use mathlib.Core.List.{List, ◌++◌}
 use Prim.Native.Nat.{ℕ, suc, ◌+◌, ◌*◌, ◌^◌, ◌≤◌, ◌<◌}
 use native.Mathlib.Omega.{arith}
-use lib.Dec.{leb}
-use lib.ListN.{length, get_or}
-use borrow.Author.Tests.{le-leb}
+use lib.ListN.{length, take, drop}
+use lib.Seq.{length-take-le}
 use Rattle.base.specs.Seq.{tabulate, cell}
-use Rattle.base.proofs.Seq.{length-tabulate, get_d_tabulate, tabulate-ext}
+use Rattle.base.specs.Parts.{Filled}
+use Rattle.base.proofs.Buffers.{buffer-front}
+use Rattle.base.proofs.Seq.{length-tabulate, get_d_tabulate, eq-tabulate}
 use Rattle.field.specs.Field.{IsByte, add, mul, pow}
 use Rattle.field.specs.FiniteSum.{sum}
 use Rattle.interpolation.specs.Polynomial.{evaluate}
-use Rattle.params.specs.Nodes.{has, size, count, listed, outside}
-use Rattle.params.proofs.Sets.{node-at-rank, count-ext, count-stop, count-range, range-yes, range-no, size-count, has-none}
+use Rattle.params.specs.Nodes.{size}
 use Rattle.code.specs.Code.{point}
 use Rattle.code.specs.Points.{point_at, points_of}
 use Rattle.code.proofs.Points.{length-points_of, points_of-most, points_of-at, points_of-points}
@@ -33,26 +32,12 @@ point_powers-at n m i j hi hj =
     power_rows-at m (tabulate n (λ j. point (suc j))) i j (omega (arith, length-tabulate n (λ j. point (suc j)))) hj
     ∙ ap (λ (c : ℕ). pow c (suc j)) (get_d_tabulate n (λ j. point (suc j)) i hi)
 
--- s has just the nodes 1, .., n, as `outside` tells them: each node's rank is one less than its number
-module _ (n s : ℕ) (small : n ≤ 32) (word : s < 2 ^ 32) (told : (i : ℕ) → has s i ≡ (outside n 0 i && leb i 32)) where
-  there : (j : ℕ) → j < n → has s (suc j) ≡ true
-  there j h =
-      told (suc j) ∙ ap₂ (λ (a b : Bool). (a && not b) && leb (suc j) 32) (range-yes n j h) (has-none (suc j)) ∙ le-leb (suc j) 32 (omega arith)
-
-  not-there : (j : ℕ) → n ≤ j → has s (suc j) ≡ false
-  not-there j h = told (suc j) ∙ ap (λ (a : Bool). (a && not (has 0 (suc j))) && leb (suc j) 32) (range-no n j h)
-
-  rank : (j : ℕ) → j ≤ n → count (has s) j ≡ j
-  rank j h = count-ext (has s) _ j (λ i hi. there i (omega arith) ∙ sym (range-yes j i hi)) ∙ count-range j j (omega arith)
-
-  pub first-points : points_of s ≡ tabulate n (λ j. point (suc j))
-  unfolding points_of
-  first-points =
-      ap (λ (m : ℕ). tabulate m (point_at s)) many
-      ∙ tabulate-ext n _ _ (λ j hj. ap (λ (k : ℕ). point (get_or (listed s) k 0)) (sym (rank j (omega arith))) ∙ ap point (node-at-rank (has s) 32 j (omega arith) (there j hj)))
-    where
-      many : size s ≡ n
-      many = size-count 32 s word ∙ count-stop (has s) n 32 small (λ j hj hk. not-there j hj) ∙ rank n (omega arith)
+-- the points of the nodes 1, .., n, lent from the front of their room
+pub first-points : (n t : ℕ) (room front : List ℕ) → n ≤ length room → length (take n room) ≤ t → Filled (λ j. point (suc j)) t (take n room) front
+    → take n (front ++ drop n room) ≡ tabulate n (λ j. point (suc j))
+first-points n t room front fits le s =
+    let whole : length front ≡ n = s.same ∙ length-take-le n room fits in
+    buffer-front n front _ whole ∙ eq-tabulate n _ front whole (λ j h. s.done j (omega (arith, length-take-le n room fits)))
 
 -- what encoding_rows leaves
 pub encodes-made : (n m : ℕ) → n ≤ 32 → (points old new : List ℕ) → points ≡ tabulate n (λ j. point (suc j)) → PowersPost points m old new → EncodesPost n m old new
