@@ -21,7 +21,7 @@ use Rattle.code.specs.declared.Blame.{Blame}
 use Rattle.code.proofs.Serving.{none_first, none-next, stopped-size}
 use Rattle.consistency.specs.Tested.{Testable}
 use Rattle.probes.specs.declared.Probes.{Probes}
-use Rattle.probes.specs.Probes.{Probed}
+use Rattle.probes.specs.Held.{Held}
 use Rattle.checking.specs.Cores.{Searchable, Given}
 
 pub record Searching (a : Params) (codeword : List ℕ) (budget fresh : ℕ) (probes : Probes) (s tried : ℕ) : Type 0 where
@@ -31,7 +31,7 @@ pub record Searching (a : Params) (codeword : List ℕ) (budget fresh : ℕ) (pr
   pub few : size s + working a ≤ a.n
   pub count : earlier a.n s ≡ tried
   pub within_budget : tried ≤ budget
-  pub probed : Probed a codeword probes.count probes.places probes.picked
+  pub probed : Held a codeword probes
 
 working-pos : (a : Params) → Valid a → 1 ≤ working a
 unfolding working slack_parts
@@ -74,7 +74,7 @@ module _ (a : Params) (codeword : List ℕ) (budget fresh : ℕ) (ok : Searchabl
 -- ---- the sets behind it
 
 module _ {a : Params} {codeword : List ℕ} {budget fresh : ℕ} {probes : Probes} where
-  pub search-start : Searchable a (length codeword) fresh → Probed a codeword probes.count probes.places probes.picked
+  pub search-start : Searchable a (length codeword) fresh → Held a codeword probes
       → Searching a codeword budget fresh probes 0 0
   search-start ok told =
       record {
@@ -103,7 +103,7 @@ module _ {a : Params} {codeword : List ℕ} {budget fresh : ℕ} {probes : Probe
         })
 
     pub search-next : {fresh' t : ℕ} {probes' : Probes} → Bytes codeword → tried < budget → (Serves a codeword s → ⊥)
-        → Probed a codeword probes'.count probes'.places probes'.picked → fresh' ≡ fresh → NextPost a.n s t → Searching a codeword budget fresh' probes' t (tried + 1)
+        → Held a codeword probes' → fresh' ≡ fresh → NextPost a.n s t → Searching a codeword budget fresh' probes' t (tried + 1)
     search-next {fresh'} {t} {probes'} bytes more fails told ef post =
         let valid = at.asks.check.valid in
         let next =

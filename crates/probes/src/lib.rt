@@ -34,8 +34,10 @@ pub struct Probes {
 }
 
 impl Probes {
+    ghost use Rattle.probes.specs.Held.{Held};
+
     pub fn new() -> Self
-        ensures { (a : Params) (codeword : List ℕ) → Probed a codeword result.count result.places result.picked }
+        ensures { (a : Params) (codeword : List ℕ) → Held a codeword result }
     {
         Probes {
             count: 0,
@@ -46,8 +48,8 @@ impl Probes {
 
     // What try_set does, with these probes.
     pub fn try_set(&mut self, a: Params, codeword: &[u8], set: NodeSet, fresh: &mut [u8]) -> bool
-        ensures told { Testable a set.0 (length codeword.now) (length fresh.old) → Probed a codeword.now self.old.count self.old.places self.old.picked → Decided (Serves a codeword.now set.0) result }
-        ensures probed { Probed a codeword.now self.old.count self.old.places self.old.picked → Probed a codeword.now self.new.count self.new.places self.new.picked }
+        ensures told { Testable a set.0 (length codeword.now) (length fresh.old) → Held a codeword.now self.old → Decided (Serves a codeword.now set.0) result }
+        ensures probed { Held a codeword.now self.old → Held a codeword.now self.new }
     {
         match try_set(
             a,
@@ -68,7 +70,7 @@ impl Probes {
 
     // What add_probe does, with these probes.
     pub fn add(&mut self, a: Params, codeword: &[u8], place: usize)
-        ensures { Probed a codeword.now self.old.count self.old.places self.old.picked → Probed a codeword.now self.new.count self.new.places self.new.picked }
+        ensures { Held a codeword.now self.old → Held a codeword.now self.new }
     {
         self.count = add_probe(
             a,

@@ -1,8 +1,7 @@
 -- Nothing may be tried, or the empty set serves, or the sets behind it are tried. Assumes nothing.
 use mathlib.Core.Path.{subst⁻¹, ◌∙◌}
 use native.Mathlib.Omega.{arith}
-use Rattle.probes.specs.declared.Probes.{Probes}
-use Rattle.probes.specs.Probes.{Probed}
+use Rattle.probes.specs.Held.{Held}
 use Rattle.checking.proofs.Search.{search-none, first-testable, first_found, search-start, search-next, search-testable, search-found, search-stopped}
 use Rattle.checking.proofs.searching.search.Goals.{in-Some-place_of, in_default-place_of}
 use Rattle.checking.proofs.searching.search.Goals as goal
@@ -20,7 +19,7 @@ returns-in_default c =
 
 pub loop-tried-init : goal.loop-tried-init
 loop-tried-init c =
-    let held = λ (p : Probes). Probed c.args.a c.args.codeword.now p.count p.places p.picked in
+    let held = Held c.args.a c.args.codeword.now in
     let told : held c.match-place_of.probes = elim c.match-place_of.branch [
       | in-Some-place_of w ↦ subst⁻¹ held w.probes-is (w.add.ensures (c.new-probes.ensures _ _))
       | in_default-place_of w ↦ subst⁻¹ held w.probes-is (c.new-probes.ensures _ _)
